@@ -15,7 +15,7 @@ use Rattle.cell_tables.specs.PlannedCell as planned
 use Rattle.cell_tables.specs.{PlannedCell.{PlannedCell}, Rests.IsReached}
 use Rattle.cell_tables.proofs.Reaching.{start_reached}
 use Rattle.cell_control.specs.{declared.ack.Ack.Ack, DueMoments.AreDueMoments, Steps.IsMade, Settled.HasSettled}
-use Rattle.cell_control.specs.{Control.{Control, at_start, verified_in, IsAnswered, IsKeptFrom, AreMomentsKept, IsControl}, Begun.IsBegun}
+use Rattle.cell_control.specs.{Control.{Control, control_at_start, verified_in, IsAnswered, IsKeptFrom, AreMomentsKept, IsControl}, Begun.IsBegun}
 use Rattle.cell_control.specs.Fields.{control_of, begun_with, AreFieldsOf}
 use Rattle.cell_control.proofs.Reached.{moves_reached, step_reached}
 
@@ -28,7 +28,7 @@ of_none_late p c t kept none v is ahead = none v (record { ahead = ahead; job = 
 
 -- ---- at the start
 
-start_control : (v : VerifiedPlan) → IsVerified v → IsControl (at_start v)
+start_control : (v : VerifiedPlan) → IsVerified v → IsControl (control_at_start v)
 start_control v verified = record {
   ranks = times_ranks v.planned v.times verified.ordered.times;
   reached = start_reached v.planned;
@@ -40,7 +40,7 @@ start_control v verified = record {
 
 -- a cell at the start, with no orders, is the start of a controller
 module _ {P : Type 0} (times_of : P → NodeTimes) (basis : P) (p : PlannedShop) (c : PlannedCell P) (orders : List MoveOrder) (is : c ≡ planned.at_start basis p) (none : orders ≡ []) where
-  pub start_is : begun_with c (times_of c.basis) orders 0 ≡ at_start (record { planned = p; times = times_of basis })
+  pub start_is : begun_with c (times_of c.basis) orders 0 ≡ control_at_start (record { planned = p; times = times_of basis })
   start_is =
       ap (λ (x : PlannedCell P). begun_with x (times_of x.basis) orders 0) is
       ∙ ap (λ (os : List MoveOrder). begun_with (planned.at_start basis p) (times_of basis) os 0) none

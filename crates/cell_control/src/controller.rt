@@ -1,6 +1,6 @@
 ghost use Rattle.std.specs.Prelude.{◌≡◌, IfOk, IfErr};
 ghost use Rattle.plan_verifier.specs.Accepted.{IsVerified};
-ghost use Rattle.cell_control.specs.Control.{at_start, verified_in, IsControl};
+ghost use Rattle.cell_control.specs.Control.{control_at_start, verified_in, IsControl};
 
 use crate::core_controller::Core;
 use crate::dues::Dues;
@@ -20,7 +20,7 @@ impl<D: Dues> Core<Verified, D> {
     /// It takes all memory that later calls need, and none of them can answer that it is out of memory. If a request
     /// for memory is refused, the plan comes back with that error; when one is, no clause says.
     pub fn new(alloc: Global, verified: Verified) -> Result<Controller<D>, (AllocError, Verified)>
-        ensures start { IfOk result (λ controller. controller ≡ at_start verified) }
+        ensures start { IfOk result (λ controller. controller ≡ control_at_start verified) }
         ensures handed_back { IfErr result (λ refused. refused.1 ≡ verified) }
     {
         // Called for its clause alone: the plan is an accepted one.
@@ -57,7 +57,7 @@ pub(crate) fn begin_with<P: Timed, D: Dues>(
 ) -> Result<Core<P, D>, (AllocError, P)>
     requires { IsVerified (record { planned = P.planned basis; times = P.times basis }) }
     ensures start { IfOk result
-        (λ controller. controller ≡ at_start (record { planned = P.planned basis; times = P.times basis })) }
+        (λ controller. controller ≡ control_at_start (record { planned = P.planned basis; times = P.times basis })) }
     ensures handed_back { IfErr result (λ refused. refused.1 ≡ basis) }
 {
     let cell = WorkCell::start(alloc, basis)?;

@@ -3,7 +3,7 @@
 ghost use Rattle.std.specs.Prelude.{◌≡◌, Some, IfOk, IfErr};
 ghost use Rattle.std.specs.Rc.{weak_target};
 ghost use Rattle.plan_verifier.specs.Accepted.{IsVerified};
-ghost use Rattle.cell_control.specs.Control.{at_start};
+ghost use Rattle.cell_control.specs.Control.{control_at_start};
 
 use crate::controller::begin_with;
 use crate::core_controller::Core;
@@ -86,7 +86,7 @@ impl<D: Dues> Core<LeanPlan, D> {
     /// The controller of an accepted plan before the first report. It takes all memory that later calls need. If a
     /// request for memory is refused, the plan comes back.
     pub fn start(alloc: Global, plan: LeanPlan) -> Result<LeanController<D>, (AllocError, LeanPlan)>
-        ensures start { IfOk result (λ controller. controller ≡ at_start plan) }
+        ensures start { IfOk result (λ controller. controller ≡ control_at_start plan) }
         ensures handed_back { IfErr result (λ refused. refused.1 ≡ plan) }
     {
         // Called for its clause alone: the plan is an accepted one.

@@ -8,7 +8,7 @@ use Rattle.cell_control.specs.{declared.ack.Ack.Ack, Control.{Control, IsAnswere
 use Rattle.cell_control.proofs.Fields.{plan_stays}
 use Rattle.run_log.specs.Log.{Noted, Notes}
 use Rattle.event_lines.specs.{declared.details.Overdue.Overdue, declared.requests.Request.Request}
-use Rattle.cell_drive.specs.{declared.protocol.Protocol.Protocol, Session.IsKept, Refusals.IsAdmissible}
+use Rattle.cell_drive.specs.{declared.protocol.Protocol.Protocol, Session.HoldsRun, Refusals.IsAdmissible}
 use Rattle.cell_drive.specs.{declared.requests.Acceptance.Acceptance, Acceptances.{IsToAccept, accepted_lines}}
 use Rattle.cell_drive.specs.ProtocolText.{IsClaimAccepted, acceptance_lines, printed_overdue, prints_end, refusal_prefix}
 use Rattle.cell_drive.specs.Replies.{AcceptedBy, HasAccepted, RepliesBy, accepted_events, reported_lines}
@@ -58,16 +58,16 @@ pub plan_after : (v : Control) (accepted : Option Report) (new : Control) → Ha
 plan_after v None new stays = ap verified_in stays
 plan_after v (Some report) new (late, answered) = plan_stays v new report _ answered
 
-module _ (v : Control) (log : Noted) (kept : IsKept v log) where
+module _ (v : Control) (log : Noted) (kept : HoldsRun v log) where
   -- the log has room for what was accepted
   pub accepted_room : (accepted : Option Report) (new : Control) → HasAccepted v accepted new → length log.entries + length (accepted_events new accepted) ≤ log.reserved
   accepted_room None new stays = let fits = (never_full v log kept).fits in omega (arith, fits)
   accepted_room (Some report) new (late, answered) = room_for v log report _ new kept answered
 
   -- and with it there is a run of the plan again
-  pub accepted_kept : (accepted : Option Report) (new : Control) (longer : Noted) → HasAccepted v accepted new → Notes log longer (accepted_events new accepted) → IsControl new → IsKept new longer
+  pub accepted_kept : (accepted : Option Report) (new : Control) (longer : Noted) → HasAccepted v accepted new → Notes log longer (accepted_events new accepted) → IsControl new → HoldsRun new longer
   accepted_kept None new longer stays notes control =
       let same : longer ≡ log = ap (λ (es : List Entry). let l : Noted = record { entries = es; reserved = longer.reserved } in l) (notes.entries ∙ append-nil log.entries)
       ∙ ap (λ (n : ℕ). let l : Noted = record { entries = log.entries; reserved = n } in l) notes.reserved in
-      subst (λ (w : Control). IsKept w longer) (sym stays) (subst (IsKept v) (sym same) kept)
+      subst (λ (w : Control). HoldsRun w longer) (sym stays) (subst (HoldsRun v) (sym same) kept)
   accepted_kept (Some report) new longer (late, answered) notes control = kept_more v log report _ new kept answered longer notes control

@@ -12,7 +12,7 @@ use Rattle.cell_tables.specs.declared.entry.Entry.{Entry, TheVariants.{Report as
 use Rattle.cell_tables.specs.Events.{events_of}
 use Rattle.run_log.specs.{Log.{Noted, Notes}, Audits.IsReplayed}
 use Rattle.run_log.proofs.Audits.{events-join, run-few}
-use Rattle.cell_drive.specs.{OneRun.{cell_after, IsSoFar, IsNeverFull}, Session.IsKept}
+use Rattle.cell_drive.specs.{OneRun.{cell_after, IsSoFar, IsNeverFull}, Session.HoldsRun}
 use Rattle.cell_drive.proofs.Parts.{events-orders}
 
 -- events behind a run that was recorded
@@ -33,7 +33,7 @@ replayed_moves p c t js entries orders replayed events are =
     subst (λ (d : Cell). IsReplayed p d (entries ++ map OrderEntry orders)) (ap (after_all p c) same ∙ after_all-moves p c t js)
     (replayed_on p c entries (map OrderEntry orders) replayed (subst (AreEvents p c) (sym same) events))
 
-module _ (control : Control) (log : Noted) (report : Report) (ack : Ack) (after : Control) (kept : IsKept control log) (answered : IsAnswered control report ack after) where
+module _ (control : Control) (log : Noted) (report : Report) (ack : Ack) (after : Control) (kept : HoldsRun control log) (answered : IsAnswered control report ack after) where
   abbrev p : PlannedShop
   p = control.planned
 
@@ -58,7 +58,7 @@ module _ (control : Control) (log : Noted) (report : Report) (ack : Ack) (after 
       omega (arith, few, reserved, length-append log.entries new_entries)
 
   -- and with it there is a run of the plan again
-  pub kept_more : (longer : Noted) → Notes log longer new_entries → IsControl after → IsKept after longer
+  pub kept_more : (longer : Noted) → Notes log longer new_entries → IsControl after → HoldsRun after longer
   kept_more longer notes still =
       let same_plan : after.planned ≡ control.planned = answered.planned in
       record {
@@ -70,7 +70,7 @@ module _ (control : Control) (log : Noted) (report : Report) (ack : Ack) (after 
       }
 
 -- how far the run of a log is
-pub so_far : (control : Control) (log : Noted) → IsKept control log → (is_done : Bool) (last left : ℕ) → IsTrue is_done ↔ HasEnded control.planned control.cell → last ≡ control.cell.last
+pub so_far : (control : Control) (log : Noted) → HoldsRun control log → (is_done : Bool) (last left : ℕ) → IsTrue is_done ↔ HasEnded control.planned control.cell → last ≡ control.cell.last
     → left ≡ reports_left control.planned control.cell → IsSoFar control.planned log.entries is_done last left
 so_far control log kept is_done last left ended moment count_is =
     let p = control.planned in
@@ -88,7 +88,7 @@ so_far control log kept is_done last left ended moment count_is =
     }
 
 -- it was never full
-pub never_full : (control : Control) (log : Noted) → IsKept control log → IsNeverFull control.planned log
+pub never_full : (control : Control) (log : Noted) → HoldsRun control log → IsNeverFull control.planned log
 never_full control log kept =
     let few = run-few control.planned log.entries kept.shaped kept.replayed.run in
     let reserved = kept.reserved in

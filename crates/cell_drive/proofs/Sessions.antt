@@ -15,7 +15,7 @@ use Rattle.cell_drive.specs.{declared.resume.RestEnd.RestEnd, LineAnswers.{LineA
 use Rattle.cell_drive.specs.{AnswerText.{CellCloses, undriven}, Replies.{RepliesBy, HasAccepted, accepted_events}}
 use Rattle.cell_drive.specs.{OneRun.{IsNeverFull, IsRunOf, IsSoFar, NeverWentWrong, cell_after}, InProtocol.IsDriveIn}
 use Rattle.cell_drive.specs.ProtocolText.{AsksFor, CellRequests, IsProtocolText, ProtocolAnswers}
-use Rattle.cell_drive.specs.Session.{AnsweredBy, IsEndOf, IsKept, IsRestEndOf, SessionAnswer, SessionCloses, SessionState, seen, session_by, session_start}
+use Rattle.cell_drive.specs.Session.{AnsweredBy, IsEndOf, HoldsRun, IsRestEndOf, SessionAnswer, SessionCloses, SessionState, seen, session_by, session_start}
 use Rattle.cell_drive.specs.ProtocolLaw.{ASessionAnswersSo}
 use Rattle.cell_drive.proofs.{Closing.closing_line_is, CutLogs.{run_of_leads, protocol_answers_lead}}
 use Rattle.cell_drive.proofs.{LineAnswers.asked_line, PromisesKept.stays_as_promised, Replied.plan_after}
@@ -54,7 +54,7 @@ session_answers p protocol (line ∷ lines) s e number text of_plan of_protocol 
 pub a_session_answers_so : ASessionAnswersSo
 a_session_answers_so s e number lines text all = session_answers s.control.planned s.protocol lines s e number text refl refl all
 
-pub closes : (v : Control) (log : Noted) (protocol : Protocol) → IsKept v log → SessionCloses (session_by protocol v log) (closing_line v.planned v.cell)
+pub closes : (v : Control) (log : Noted) (protocol : Protocol) → HoldsRun v log → SessionCloses (session_by protocol v log) (closing_line v.planned v.cell)
 closes v log protocol kept = closing_line_is v.planned v.cell kept.shaped kept.control.sound kept.control.at_rest
 
 pub seen_closes : (p : PlannedShop) (s : SessionState) (text : List ℕ) → s.control.planned ≡ p → SessionCloses s text → CellCloses p (seen s) text
@@ -68,7 +68,7 @@ undriven_drive v protocol streams outcome is = subst (IsDriveIn protocol v strea
 
 -- ---- the end
 
-module _ (v : VerifiedPlan) (protocol : Protocol) (e : SessionState) (lines : List (Option (List ℕ))) (text : List ℕ) (end : DriveEnd) (kept : IsKept e.control e.log)
+module _ (v : VerifiedPlan) (protocol : Protocol) (e : SessionState) (lines : List (Option (List ℕ))) (text : List ℕ) (end : DriveEnd) (kept : HoldsRun e.control e.log)
     (all : AnswerAll SessionAnswer (session_start protocol v) 1 lines text e) where
   abbrev p : PlannedShop
   p = v.planned
@@ -113,7 +113,7 @@ driven_text v protocol end before after is =
     }
 
 -- the end of one that was recovered
-pub rest_end_of : (protocol : Protocol) (v : Control) (log : Noted) → IsKept v log → (end : RestEnd) → end.log ≡ log → IsTrue end.done ↔ HasEnded v.planned v.cell → end.last ≡ v.cell.last → end.left ≡ v.left
+pub rest_end_of : (protocol : Protocol) (v : Control) (log : Noted) → HoldsRun v log → (end : RestEnd) → end.log ≡ log → IsTrue end.done ↔ HasEnded v.planned v.cell → end.last ≡ v.cell.last → end.left ≡ v.left
     → IsRestEndOf v.planned (session_by protocol v log) end
 rest_end_of protocol v log kept end same ended moment count =
     let is_so_far = so_far v log kept end.done end.last end.left ended moment (count ∙ kept.control.counted) in

@@ -39,7 +39,7 @@ accepted_lines prefix report late orders =
     (prefix ++ report_line report) ++ ((if late then prefix ++ late_line (at report) else []) ++ flat_map (λ o. prefix ++ order_line o) orders)
 
 -- the report isn't possible in the cell: it is refused by its first reason, and nothing changes
-pub record IsRefused (p : PlannedShop) (c : Cell) (number : ℕ) (report : Report) (text : List ℕ) (events : List Entry) (next : Cell) : Type 0 where
+pub record IsRefusedReport (p : PlannedShop) (c : Cell) (number : ℕ) (report : Report) (text : List ℕ) (events : List Entry) (next : Cell) : Type 0 where
   pub reason : ReportFault
   pub first : IsFirstReason p c report reason
   pub text_is : text ≡ refused_line number (reason_name reason)
@@ -47,7 +47,7 @@ pub record IsRefused (p : PlannedShop) (c : Cell) (number : ℕ) (report : Repor
   pub next_is : next ≡ c
 
 -- the report is possible: it makes a step of the controlled run, with these events
-pub record IsAccepted (p : PlannedShop) (prefix : List ℕ) (c : Cell) (report : Report) (text : List ℕ) (events : List Entry) (next : Cell) : Type 0 where
+pub record IsAcceptedReport (p : PlannedShop) (prefix : List ℕ) (c : Cell) (report : Report) (text : List ℕ) (events : List Entry) (next : Cell) : Type 0 where
   pub movers : List ℕ
   pub step : IsStep p c report movers
   pub late : Bool
@@ -58,7 +58,7 @@ pub record IsAccepted (p : PlannedShop) (prefix : List ℕ) (c : Cell) (report :
 
 -- in a cell a report, by its line of this number, is answered by this text, with this before each line but a refusal. It adds these events, and the cell is then another
 abbrev pub ReportAnswer : PlannedShop → List ℕ → Cell → ℕ → Report → List ℕ → List Entry → Cell → Type 0
-ReportAnswer p prefix c number report text events next = IsRefused p c number report text events next ⊎ IsAccepted p prefix c report text events next
+ReportAnswer p prefix c number report text events next = IsRefusedReport p c number report text events next ⊎ IsAcceptedReport p prefix c report text events next
 
 -- the closing line, behind the last answer: the run is done, or so many reports are left
 abbrev pub IsClosingLine : PlannedShop → Cell → List ℕ → Type 0

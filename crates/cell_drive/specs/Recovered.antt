@@ -7,7 +7,7 @@ use Rattle.cell_tables.specs.{Events.events_of, declared.tables.Tables.Tables, T
 use Rattle.event_lines.specs.LogLines.{LinesParse}
 use Rattle.cell_control.specs.{Begun.IsBegun, Control.Control}
 use Rattle.run_log.specs.Log.{Noted}
-use Rattle.cell_drive.specs.{AnswerText.DrivenCell, OneRun.cell_after, LateEvents.AreLate, Session.IsKept}
+use Rattle.cell_drive.specs.{AnswerText.DrivenCell, OneRun.cell_after, LateEvents.AreLate, Session.HoldsRun}
 
 -- a controller, the log of the whole run, and of each event that the log recorded whether it is a late report
 pub record Recovered : Type 0 where
@@ -37,7 +37,7 @@ replayed_cell recovered = cell_after (plan_of recovered) (replayed_events recove
 
 -- after the events that the log recorded, the controller begins with the cell to which they lead; what it then orders is due
 pub record IsRecoveredRun (recovered : Recovered) : Type 0 where
-  pub kept : IsKept recovered.control recovered.log
+  pub kept : HoldsRun recovered.control recovered.log
   pub begun : IsBegun (plan_of recovered) (replayed_cell recovered) recovered.control.began recovered.control
   pub due : recovered.log.entries ≡ replayed_events recovered ++ map OrderEntry recovered.control.orders
   pub within : length recovered.late ≤ length recovered.log.entries

@@ -3,7 +3,7 @@ use Rattle.std.specs.Prelude.{◌≡◌, ℕ, ◌*◌, List, [], Option, Some}
 use Rattle.shop_base.specs.{Plan.PlannedShop, Plan.IsWellShaped, Run.IsRun, Ends.stated_number}
 use Rattle.plan_verifier.specs.Accepted.{VerifiedPlan}
 use Rattle.cell_tables.specs.Events.{events_of}
-use Rattle.cell_control.specs.Control.{Control, IsControl, at_start, verified_in}
+use Rattle.cell_control.specs.Control.{Control, IsControl, control_at_start, verified_in}
 use Rattle.event_lines.specs.declared.requests.Request.{Request}
 use Rattle.run_log.specs.{Log.Noted, Audits.IsReplayed}
 use Rattle.cell_drive.specs.{declared.protocol.Protocol.Protocol, declared.begin.DriveEnd.DriveEnd}
@@ -23,10 +23,10 @@ session_by protocol control log = record { protocol = protocol; control = contro
 
 -- before the first line of a run that begins
 abbrev pub session_start : Protocol → VerifiedPlan → SessionState
-session_start protocol v = session_by protocol (at_start v) (record { entries = []; reserved = 2 * stated_number v.planned })
+session_start protocol v = session_by protocol (control_at_start v) (record { entries = []; reserved = 2 * stated_number v.planned })
 
 -- the log has a run of the plan, which leads to the controller's cell, and room for the rest of it
-pub record IsKept (v : Control) (log : Noted) : Type 0 where
+pub record HoldsRun (v : Control) (log : Noted) : Type 0 where
   pub shaped : IsWellShaped v.planned
   pub control : IsControl v
   pub replayed : IsReplayed v.planned v.cell log.entries

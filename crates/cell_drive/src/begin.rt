@@ -5,7 +5,7 @@ ghost use Rattle.shop_base.specs.Ends.{HasEnded};
 ghost use Rattle.byte_streams.specs.Lent.{streams_of};
 ghost use Rattle.plan_verifier.specs.Accepted.{IsVerified};
 ghost use Rattle.cell_control.specs.Control.{verified_in};
-ghost use Rattle.cell_drive.specs.{Protocols.plain_from, Session.IsKept, Session.session_start};
+ghost use Rattle.cell_drive.specs.{Protocols.plain_from, Session.HoldsRun, Session.session_start};
 ghost use Rattle.cell_drive.specs.InProtocol.{IsDriveIn, begun_in};
 
 use crate::protocol::Protocol;
@@ -97,7 +97,7 @@ fn begin(
 
 /// What the run has come to.
 fn end(session: Session<Verified, TourneyDues>) -> DriveEnd
-    ensures kept { IsKept session.control session.log }
+    ensures kept { HoldsRun session.control session.log }
     ensures log { result.log ≡ session.log }
     ensures plan { result.verified ≡ verified_in session.control }
     ensures verified { IsVerified (verified_in session.control) }

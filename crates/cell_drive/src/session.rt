@@ -3,7 +3,7 @@
 ghost use Rattle.std.specs.Prelude.{◌≡◌, ◌+◌, ◌≤◌, ◌∷◌, length, map};
 ghost use Rattle.run_log.specs.Log.{Notes};
 ghost use Rattle.byte_streams.specs.Lent.{WroteOneTo};
-ghost use Rattle.cell_drive.specs.{Replies.accepted_events, Session.AnswersRequest, Session.IsKept};
+ghost use Rattle.cell_drive.specs.{Replies.accepted_events, Session.AnswersRequest, Session.HoldsRun};
 
 use crate::protocol::Protocol;
 use crate::replies::{put_closing, put_refused};
@@ -25,13 +25,13 @@ pub(crate) struct Session<P: Timed, D: Dues> {
 }
 
 impl<P: Timed, D: Dues> Model for Session<P, D> {
-    ghost use Rattle.cell_drive.specs.Session.{SessionState, IsKept, session_by};
+    ghost use Rattle.cell_drive.specs.Session.{SessionState, HoldsRun, session_by};
 
     ghost Value = { SessionState };
 
     ghost view = { λ s. session_by s.protocol s.controller s.log };
 
-    ghost invariant = { λ s. IsKept s.controller s.log };
+    ghost invariant = { λ s. HoldsRun s.controller s.log };
 }
 
 /// Notes an accepted report and the moves that it released.
@@ -69,8 +69,8 @@ fn answer_request<P: Timed, D: Dues, W: Sink>(
     request: Request,
     writer: &mut W,
 ) -> Result<(), WriteFault>
-    requires { IsKept controller.old log.old }
-    ensures kept { IsKept controller.new log.new }
+    requires { HoldsRun controller.old log.old }
+    ensures kept { HoldsRun controller.new log.new }
     ensures answered { WroteOneTo W.Sink result writer.old writer.new
         (AnswersRequest protocol controller.old log.old number request controller.new log.new) }
 {

@@ -5,7 +5,7 @@ use Rattle.shop_base.specs.declared.report.Report as reports
 use Rattle.cell_tables.specs.declared.claim.Claim.{Claim, TheVariants.Report}
 use Rattle.slab.specs.Slab.{Slab, get, with_value, Updates}
 use Rattle.plan_verifier.specs.Accepted.{VerifiedPlan}
-use Rattle.cell_control.specs.{Control.{Control, IsAnswered, at_start}, Claims.IsClaimReason, declared.ack.Ack.Ack}
+use Rattle.cell_control.specs.{Control.{Control, IsAnswered, control_at_start}, Claims.IsClaimReason, declared.ack.Ack.Ack}
 use Rattle.cell_control.specs.Judged.{JudgedReport, IsPossible}
 use Rattle.cell_control.proofs.ClaimReasons.{only_claim_reason}
 use Rattle.cell_hub.specs.{declared.slots.Ticket.Ticket, declared.slots.Placed.Placed, Hub.{HubState, cell_at}}
@@ -45,7 +45,7 @@ module _ {P D : Type 0} (s reserved new : Slab (Placed P D)) (next : ℕ) (now :
       empty = sym (as_before slot) ∙ vacant
 
 -- one that has just begun is made of its plan
-pub is_admitted : (old new : HubState) (plan : VerifiedPlan) (t : Ticket) (controller : Control) → IsSeated old controller t new → controller ≡ at_start plan → IsAdmitted old plan t new
+pub is_admitted : (old new : HubState) (plan : VerifiedPlan) (t : Ticket) (controller : Control) → IsSeated old controller t new → controller ≡ control_at_start plan → IsAdmitted old plan t new
 is_admitted old new plan t controller seated start = subst (λ (c : Control). IsSeated old c t new) start seated
 
 -- a report finds no cell exactly where the ticket has none

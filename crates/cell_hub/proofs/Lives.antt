@@ -4,7 +4,7 @@ use Rattle.std.proofs.lemmas.List.Elements.{All-nil, All-cons}
 use Rattle.std.specs.declared.result.Result.TheVariants.{Ok, Err}
 use Rattle.shop_base.specs.declared.report.Report.{Report}
 use Rattle.plan_verifier.specs.Accepted.{VerifiedPlan}
-use Rattle.cell_control.specs.{declared.ack.Ack.Ack, Control.{Control, at_start, IsAnswered}, Reports.IsFirstReason}
+use Rattle.cell_control.specs.{declared.ack.Ack.Ack, Control.{Control, control_at_start, IsAnswered}, Reports.IsFirstReason}
 use Rattle.cell_hub.specs.{declared.slots.Ticket.Ticket, Hub.{HubState, hub_from, cell_at, Puts, AreSerialsBelow}}
 use Rattle.cell_hub.specs.declared.hub_fault.HubFault.{HubFault, TheVariants.{NoSuchCell, SerialsSpent, Memory, Cell}}
 use Rattle.cell_tables.specs.declared.claim.Claim.TheVariants as claims
@@ -65,7 +65,7 @@ unfound old t dismissed call fits empty none = law.after call none
 
 given_on : (old new : HubState) (plan : VerifiedPlan) (t : Ticket) (life : Life) → IsAdmitted old plan t new → Fits old t life → LifeGoesOn new t life (Admitted plan (Ok t))
 given_on old new plan t not_given is fits = record {
-  next = stands (at_start plan);
+  next = stands (control_at_start plan);
   lives = law.given plan;
   fits = record { content = is.cells.changed; spent = λ was. absurd (cc) };
 }

@@ -5,7 +5,7 @@ use Rattle.std.specs.declared.result.Result.TheVariants.{Ok, Err}
 use Rattle.shop_base.specs.{declared.report.Report.Report, Plan.{PlannedShop, IsWellShaped}, Run.Event, Sound.IsSound}
 use Rattle.shop_base.proofs.{Keeping.start-sound, ControlledRuns.after_step-sound}
 use Rattle.plan_verifier.specs.Accepted.{VerifiedPlan}
-use Rattle.cell_control.specs.{declared.ack.Ack.Ack, Control.{Control, at_start, IsAnswered}, Promises.AreCalled}
+use Rattle.cell_control.specs.{declared.ack.Ack.Ack, Control.{Control, control_at_start, IsAnswered}, Promises.AreCalled}
 use Rattle.cell_control.specs.Promises as promise
 use Rattle.cell_control.proofs.{Promises.calls_make_the_controlled_run, Reasons.reason-cannot}
 use Rattle.cell_hub.specs.{declared.slots.Ticket.Ticket, declared.hub_fault.HubFault.TheVariants.Cell, Hub.is_ticket}
@@ -80,8 +80,8 @@ module _ (p : PlannedShop) (shaped : IsWellShaped p) (t : Ticket) where
       subst (λ rs. AreItsCalls c rs content) (sym (elsewhere_adds_none t call calls off)) (stand c calls end content of_plan sound rest there)
 
 -- the ticket is given at its admission, so its controller begins there
-given_there : (t : Ticket) (plan : VerifiedPlan) (life next : Life) (call : HubCall) → Lives t life call next → call ≡ Admitted plan (Ok t) → next ≡ stands (at_start plan)
-given_there t plan _ _ _ (law.given other) is = let same : other ≡ plan = cc in ap (λ (v : VerifiedPlan). stands (at_start v)) same
+given_there : (t : Ticket) (plan : VerifiedPlan) (life next : Life) (call : HubCall) → Lives t life call next → call ≡ Admitted plan (Ok t) → next ≡ stands (control_at_start plan)
+given_there t plan _ _ _ (law.given other) is = let same : other ≡ plan = cc in ap (λ (v : VerifiedPlan). stands (control_at_start v)) same
 given_there t plan _ _ _ (law.answered c new r ack answer) is = absurd (cc)
 given_there t plan _ _ _ (law.refused c r reason first) is = absurd (cc)
 given_there t plan _ _ _ (law.shown c) is = absurd (cc)
@@ -90,7 +90,7 @@ given_there t plan _ _ _ (law.elsewhere c call off) is = absurd (off (subst (IsO
 given_there t plan _ _ _ (law.before call none) is = absurd (subst (FindsNoCell t) is none refl)
 given_there t plan _ _ _ (law.after call none) is = absurd (subst (FindsNoCell t) is none refl)
 
-from_start : (t : Ticket) (plan : VerifiedPlan) (life last : Life) (before after : List HubCall) → AreLived t life (before ++ Admitted plan (Ok t) ∷ after) last → AreLived t (stands (at_start plan)) after last
+from_start : (t : Ticket) (plan : VerifiedPlan) (life last : Life) (before after : List HubCall) → AreLived t life (before ++ Admitted plan (Ok t) ∷ after) last → AreLived t (stands (control_at_start plan)) after last
 from_start t plan _ _ [] after (law.once_more life mid last _ _ lives rest) = subst (λ l. AreLived t l after last) (given_there t plan life mid _ lives refl) rest
 from_start t plan _ _ (call ∷ before) after (law.once_more _ mid last _ _ lives rest) = from_start t plan mid last before after rest
 
@@ -98,5 +98,5 @@ pub calls_make_the_controlled_runs : CallsMakeTheControlledRuns
 calls_make_the_controlled_runs first before after end t plan content verified are there =
     let (life, lived, same) = cells_are_apart first (before ++ Admitted plan (Ok t) ∷ after) end t are in
     let shaped = verified.schedule.shaped in
-    let its = stand plan.planned shaped t (at_start plan) after life content refl (start-sound plan.planned shaped) (from_start t plan not_given life before after lived) (sym same ∙ there) in
+    let its = stand plan.planned shaped t (control_at_start plan) after life content refl (start-sound plan.planned shaped) (from_start t plan not_given life before after lived) (sym same ∙ there) in
     (its.events, calls_make_the_controlled_run plan (reports_on t after) its.events content its.calls)

@@ -5,7 +5,7 @@ use Rattle.shop_base.specs.declared.report.Report as reports
 use Rattle.shop_base.specs.{Activity.GoesOn, Report.ended, Report.at}
 use Rattle.cell_tables.specs.{declared.claim.Claim.Claim, declared.claim.Claim.TheVariants.Report, Claims.claimed}
 use Rattle.plan_verifier.specs.Accepted.{VerifiedPlan}
-use Rattle.cell_control.specs.{declared.ack.Ack.Ack, Control.Control, Control.at_start, Control.IsAnswered}
+use Rattle.cell_control.specs.{declared.ack.Ack.Ack, Control.Control, Control.control_at_start, Control.IsAnswered}
 use Rattle.cell_control.specs.Claims.{CanClaim, IsClaimReason}
 use Rattle.cell_control.specs.Judged.{JudgedReport, IsPossible}
 use Rattle.cell_hub.specs.{declared.slots.Ticket.Ticket, declared.hub_fault.HubFault.HubFault}
@@ -26,7 +26,7 @@ pub record IsSeated (old : HubState) (c : Control) (t : Ticket) (new : HubState)
 
 -- a cell is made of the plan: it has a controller before the first report, and a ticket with the next serial
 abbrev pub IsAdmitted : HubState → VerifiedPlan → Ticket → HubState → Type 0
-IsAdmitted old plan t new = IsSeated old (at_start plan) t new
+IsAdmitted old plan t new = IsSeated old (control_at_start plan) t new
 
 -- why no cell is made: the serials are spent, or else out of memory
 abbrev pub IsNotAdmitted : HubState → HubFault → Type 0

@@ -4,7 +4,7 @@ use Rattle.std.specs.declared.result.Result.TheVariants.{Ok, Err}
 use Rattle.shop_base.specs.{declared.report.Report.Report, Run.Event}
 use Rattle.plan_verifier.specs.Accepted.{VerifiedPlan, IsVerified}
 use Rattle.cell_control.specs.{declared.ack.Ack.Ack, declared.report_fault.ReportFault.ReportFault}
-use Rattle.cell_control.specs.{Control.Control, Control.at_start, Control.IsAnswered, Reports.IsFirstReason}
+use Rattle.cell_control.specs.{Control.Control, Control.control_at_start, Control.IsAnswered, Reports.IsFirstReason}
 use Rattle.cell_control.specs.Promises.{IsControllerAfter}
 use Rattle.cell_hub.specs.{declared.slots.Ticket.Ticket, Hub.HubState, Hub.hub_from, Hub.is_ticket, Hub.cell_at}
 use Rattle.cell_hub.specs.declared.hub_fault.HubFault.TheVariants.{NoSuchCell, Cell}
@@ -43,7 +43,7 @@ content_in dismissed = None
 
 -- what a call makes of a ticket's life, where a controller alone answers: it is made of the plan for which the ticket is given, takes each report on the ticket, is shown, and is given back when the ticket is dismissed. Before and after that no cell is found. A call on another ticket is nothing to it
 pub data Lives (t : Ticket) : Life → HubCall → Life → Type 0 where
-  given : (plan : VerifiedPlan) → Lives t not_given (Admitted plan (Ok t)) (stands (at_start plan))
+  given : (plan : VerifiedPlan) → Lives t not_given (Admitted plan (Ok t)) (stands (control_at_start plan))
   answered : (c new : Control) (r : Report) (ack : Ack) → IsAnswered c r ack new → Lives t (stands c) (Reported t r (Ok ack)) (stands new)
   refused : (c : Control) (r : Report) (reason : ReportFault) → IsFirstReason c.planned c.cell r reason → Lives t (stands c) (Reported t r (Err (Cell reason))) (stands c)
   shown : (c : Control) → Lives t (stands c) (Shown t (Some c)) (stands c)

@@ -9,15 +9,15 @@ use Rattle.command_answers.specs.declared.command_fault.CommandFault.TheVariants
 use Rattle.command_answers.specs.Instances.{IsInstanceRefusal}
 use Rattle.command_answers.specs.Plans.{IsRightOfBoth, IsPlanRefusal}
 use Rattle.command_answers.specs.Readings.{AreTextsAnswered}
-use Rattle.command_answers.specs.Statuses.{status_of}
+use Rattle.command_answers.specs.Statuses.{command_status_of}
 use Rattle.cellplan_c.specs.Calls.{IsPut, Answers, IsTextFaultReport, IsTextsReport, AreTextsReported}
 use Rattle.cellplan_c.specs.FaultsWithoutLine.{HasNoLine}
 
 put_result : (Is : Answer → Type 0) (outcome : Result Answer CommandFault) (result : ℕ) (old new : List ℕ) (needed : ℕ)
-    → IfErr outcome (λ fault. (result ≡ status_of fault) × (needed ≡ 0) × (new ≡ old))
+    → IfErr outcome (λ fault. (result ≡ command_status_of fault) × (needed ≡ 0) × (new ≡ old))
     → IfOk outcome (λ answer. IsPut answer.text.items answer.status result old new needed)
     → IfErr outcome (λ fault. fault ≡ Memory) → IfOk outcome Is → Answers result old new needed Is
-put_result Is (Err fault) result old new needed unsaid put memory is = inl (unsaid.0 ∙ ap status_of memory, unsaid.1, unsaid.2)
+put_result Is (Err fault) result old new needed unsaid put memory is = inl (unsaid.0 ∙ ap command_status_of memory, unsaid.1, unsaid.2)
 put_result Is (Ok answer) result old new needed unsaid put memory is = inr (answer, is, put)
 
 memory_no_line : (Is : Answer → Type 0) (outcome : Result Answer CommandFault) → IfOk outcome (IsTextFaultReport Memory) → IfOk outcome Is
@@ -54,7 +54,7 @@ plan_line Log why outcome is line = absurd is
 plan_line LogInUse why outcome is line = absurd is
 
 -- a fault that has a line is of a text
-of_text : (fault : CommandFault) (answer : Answer) → IsTextFaultReport fault answer → status_of fault ≡ 3
+of_text : (fault : CommandFault) (answer : Answer) → IsTextFaultReport fault answer → command_status_of fault ≡ 3
 of_text (Instance why) answer line = refl
 of_text (Plan why) answer line = refl
 of_text Memory answer line = absurd line.0
@@ -109,7 +109,7 @@ module _ (instance : List ℕ) (name : Option (List ℕ)) (plan : List ℕ) (Is 
   }
 
   put_texts : (outcome : Result Answer CommandFault) (result : ℕ) (old new : List ℕ) (needed : ℕ)
-      → IfErr outcome (λ fault. (result ≡ status_of fault) × (needed ≡ 0) × (new ≡ old))
+      → IfErr outcome (λ fault. (result ≡ command_status_of fault) × (needed ≡ 0) × (new ≡ old))
       → IfOk outcome (λ answer. IsPut answer.text.items answer.status result old new needed)
       → IfErr outcome (λ fault. fault ≡ Memory)
       → AreTextsReported instance name plan Is (IfOk outcome)
@@ -130,7 +130,7 @@ module _ (instance : List ℕ) (name : Option (List ℕ)) (plan : List ℕ) (Is 
       → IfOk answered (λ answer. outcome ≡ Ok answer)
       → IfErr answered (λ fault. IfOk outcome (IsTextFaultReport fault))
       → IfErr answered (λ fault. IfErr outcome (HasNoLine fault))
-      → IfErr outcome (λ fault. (result ≡ status_of fault) × (needed ≡ 0) × (new ≡ old))
+      → IfErr outcome (λ fault. (result ≡ command_status_of fault) × (needed ≡ 0) × (new ≡ old))
       → IfOk outcome (λ answer. IsPut answer.text.items answer.status result old new needed)
       → AreTextsReported instance name plan Is (Answers result old new needed)
   found_and_put (Err fault) outcome result old new needed are same line other unsaid put =

@@ -7,7 +7,7 @@ use Rattle.shop_base.proofs.ReportsLeft.{start-reports_left}
 use Rattle.plan_verifier.specs.declared.verdict.Verdict.TheVariants.{Accepted, Refused}
 use Rattle.plan_verifier.specs.Accepted.{VerifiedPlan, IsVerified, IsAcceptable}
 use Rattle.plan_verifier.proofs.Reasons.{verified_greatest, verified_never_before, verified_no_later, verified_just_in_time}
-use Rattle.cell_control.specs.Control.{at_start, Control}
+use Rattle.cell_control.specs.Control.{control_at_start, Control}
 use Rattle.command_answers.specs.declared.command_fault.CommandFault.{CommandFault}
 use Rattle.command_answers.specs.declared.loading.Loaded.{Loaded}
 use Rattle.command_answers.specs.declared.loading.Loaded.TheVariants.{NotShaped, Judged}
@@ -30,7 +30,7 @@ held_so P Q None more is = tt
 held_so P Q (Some inner) more is = more inner is
 
 -- each job keeps to its earliest leaving by an accepted plan
-leavings_kept : (v : VerifiedPlan) → IsVerified v → (j : ℕ) → j < jobs v.planned → IsEarliestLeaving (at_start v) j
+leavings_kept : (v : VerifiedPlan) → IsVerified v → (j : ℕ) → j < jobs v.planned → IsEarliestLeaving (control_at_start v) j
 leavings_kept v sound j inside = record {
   greatest = verified_greatest v sound j inside;
   in_budget = sound.budgets j inside;

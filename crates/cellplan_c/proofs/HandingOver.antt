@@ -10,7 +10,7 @@ use Rattle.alt_graph.specs.Times.{rank_of}
 use Rattle.command_answers.specs.declared.command_fault.CommandFault.{CommandFault}
 use Rattle.command_answers.specs.Readings.{AreTextsAnswered}
 use Rattle.command_answers.specs.Shapes.{IsShapedOrNot}
-use Rattle.command_answers.specs.Statuses.{status_of}
+use Rattle.command_answers.specs.Statuses.{command_status_of}
 use Rattle.cell_tables.specs.declared.present_fault.PresentFault.TheVariants.{Past, TooLarge}
 use Rattle.cell_control.specs.declared.hand_over_fault.HandOverFault.{HandOverFault}
 use Rattle.cell_control.specs.declared.hand_over_fault.HandOverFault.TheVariants.{Present, IncompatiblePlan, Cycle, Memory}
@@ -80,7 +80,7 @@ module _ (instance : List ℕ) (name : Option (List ℕ)) (plan : List ℕ) (t :
   }
 
   -- a text is refused, or memory ran out
-  pub texts_refused : (fault : CommandFault) (status : ℕ) (old new : Control) → t ≤ MAX_MOMENT → AreTextsAnswered instance name plan IsShapedOrNot (Err fault) → status ≡ status_of fault
+  pub texts_refused : (fault : CommandFault) (status : ℕ) (old new : Control) → t ≤ MAX_MOMENT → AreTextsAnswered instance name plan IsShapedOrNot (Err fault) → status ≡ command_status_of fault
       → IsHandOver instance name plan t status old new
   texts_refused fault status old new low are is =
       let bounds = fault_bounds instance name plan fault are.fault in
@@ -92,7 +92,7 @@ module _ (instance : List ℕ) (name : Option (List ℕ)) (plan : List ℕ) (t :
         first = λ _ other first. either;
         second = λ _ other parses first. either;
         found = λ _ no_fault memory. absurd (elim either [ inl three ↦ no_fault three | inr four ↦ memory four ]);
-        only = λ _ p parse. no_memory (is ∙ ap status_of (are.only p parse));
+        only = λ _ p parse. no_memory (is ∙ ap command_status_of (are.only p parse));
       }
 
   -- a plan is given, and this came of it

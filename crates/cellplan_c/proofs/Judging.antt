@@ -10,7 +10,7 @@ use Rattle.command_answers.specs.declared.command_fault.CommandFault.TheVariants
 use Rattle.command_answers.specs.Checks.{IsCheckLine, verdict_status}
 use Rattle.command_answers.specs.Explains.{IsExplanation}
 use Rattle.command_answers.specs.Plans.{IsRightOfBoth}
-use Rattle.command_answers.specs.Statuses.{status_of}
+use Rattle.command_answers.specs.Statuses.{command_status_of}
 use Rattle.command_answers.specs.declared.rests.PlanAnswer.{PlanAnswer}
 use Rattle.command_answers.specs.declared.rests.PlanAnswer.TheVariants.{Reasons}
 use Rattle.people_names.specs.NameBooks.{no_names}
@@ -40,7 +40,7 @@ explanation_bound p answer (inl line) = omega (arith, line.line.refused)
 explanation_bound p answer (inr explained) = known_bound (Reasons None) p (start p) 0 answer explained
 
 pub fault_bounds : (instance : List ℕ) (name : Option (List ℕ)) (plan : List ℕ) (fault : CommandFault)
-    → IsRightOfBoth instance name plan fault → (3 ≤ status_of fault) × (status_of fault ≤ 4)
+    → IsRightOfBoth instance name plan fault → (3 ≤ command_status_of fault) × (command_status_of fault ≤ 4)
 fault_bounds instance name plan (Instance why) is = (omega arith, omega arith)
 fault_bounds instance name plan (Plan why) is = (omega arith, omega arith)
 fault_bounds instance name plan Memory is = (omega arith, omega arith)

@@ -2,7 +2,7 @@
 use Rattle.std.specs.Prelude.{◌≡◌}
 use Rattle.plan_verifier.specs.declared.verdict.Verdict.TheVariants.{Accepted, Refused}
 use Rattle.plan_verifier.specs.Accepted.{IsVerified}
-use Rattle.cell_control.specs.Control.{at_start, Control}
+use Rattle.cell_control.specs.Control.{control_at_start, Control}
 use Rattle.command_answers.specs.declared.loading.Loaded.{Loaded}
 use Rattle.command_answers.specs.declared.loading.Loaded.TheVariants.{NotShaped, Judged}
 
@@ -10,4 +10,4 @@ use Rattle.command_answers.specs.declared.loading.Loaded.TheVariants.{NotShaped,
 abbrev pub IsControllerOf : Loaded → Control → Type 0
 IsControllerOf (NotShaped fault) control = ⊥
 IsControllerOf (Judged (Refused back why)) control = ⊥
-IsControllerOf (Judged (Accepted verified)) control = IsVerified verified × (control ≡ at_start verified)
+IsControllerOf (Judged (Accepted verified)) control = IsVerified verified × (control ≡ control_at_start verified)

@@ -10,7 +10,7 @@ use Rattle.orlib_read.specs.declared.or_fault.OrFault.{OrFault}
 use Rattle.plan_text.specs.declared.plan_fault.PlanFault.{PlanFault}
 use Rattle.plan_text.specs.Documents.{IsFirstPlanFault}
 use Rattle.plan_verifier.specs.Accepted.{VerifiedPlan, IsVerified, IsAcceptable, IsGreatest, IsNeverGoneAfter, IsGoneJustAt}
-use Rattle.cell_control.specs.Control.{at_start, Control}
+use Rattle.cell_control.specs.Control.{control_at_start, Control}
 use Rattle.command_answers.specs.declared.answer.Answer.{Answer}
 use Rattle.command_answers.specs.declared.command_fault.CommandFault.{CommandFault}
 use Rattle.command_answers.specs.declared.command_fault.CommandFault.TheVariants.{Instance, Plan}
@@ -19,12 +19,12 @@ use Rattle.command_answers.specs.declared.loading.Loaded.TheVariants.{NotShaped,
 use Rattle.command_answers.specs.Instances.{IsFirstInstanceFault}
 use Rattle.command_answers.specs.Plans.{BothParse, ParsesAsShop, IsOfBoth, IsRightOfBoth}
 use Rattle.command_answers.specs.Checks.{IsLoaded, verdict_status}
-use Rattle.command_answers.specs.Statuses.{status_of}
+use Rattle.command_answers.specs.Statuses.{command_status_of}
 
 -- the fault is of one of the two texts, the instance's before the plan's
 pub record IsTextFault (instance : List ℕ) (name : Option (List ℕ)) (plan : List ℕ) (fault : CommandFault) : Type 0 where
   pub right : IsRightOfBoth instance name plan fault
-  pub status : status_of fault ≡ 3
+  pub status : command_status_of fault ≡ 3
 
 -- the text stands in front in the caller's room, and its length is answered
 pub record IsLaid (text old new : List ℕ) (needed : ℕ) : Type 0 where
@@ -32,7 +32,7 @@ pub record IsLaid (text old new : List ℕ) (needed : ℕ) : Type 0 where
   pub needed_is : needed ≡ length text
 
 -- the text is longer than the caller's room, which stays as it was, and its length is answered
-pub record IsTooLong (text old new : List ℕ) (needed : ℕ) : Type 0 where
+pub record IsLongerThanRoom (text old new : List ℕ) (needed : ℕ) : Type 0 where
   pub beyond : length old < length text
   pub unchanged : new ≡ old
   pub needed_is : needed ≡ length text
@@ -40,7 +40,7 @@ pub record IsTooLong (text old new : List ℕ) (needed : ℕ) : Type 0 where
 -- the status, with the text in the caller's room, or the status of too little room
 abbrev pub IsPut : List ℕ → ℕ → ℕ → List ℕ → List ℕ → ℕ → Type 0
 IsPut text status result old new needed =
-    ((result ≡ status) × IsLaid text old new needed) ⊎ ((result ≡ 6) × IsTooLong text old new needed)
+    ((result ≡ status) × IsLaid text old new needed) ⊎ ((result ≡ 6) × IsLongerThanRoom text old new needed)
 
 -- memory ran out, and nothing is written; or one of these answers was put
 abbrev pub Answers : ℕ → List ℕ → List ℕ → ℕ → (Answer → Type 0) → Type 0
@@ -91,7 +91,7 @@ pub record IsStarted (instance : List ℕ) (name : Option (List ℕ)) (plan : Li
   pub well_shaped : IsWellShaped accepted.planned
   pub acceptable : IsAcceptable accepted.planned
   pub verified : IsVerified accepted
-  pub start : control ≡ at_start accepted
+  pub start : control ≡ control_at_start accepted
   pub same : (p : PlannedShop) → BothParse instance name plan p → control.planned ≡ p
   -- as many reports are left as the stated number, and each job keeps to its earliest leaving
   pub left : reports_left control.planned control.cell ≡ stated_number control.planned

@@ -6,7 +6,7 @@ ghost use Rattle.orlib_read.specs.declared.or_fault.OrFault.{OrFault};
 ghost use Rattle.plan_text.specs.declared.plan_fault.PlanFault.{PlanFault};
 ghost use Rattle.plan_text.specs.Documents.{IsFirstPlanFault};
 ghost use Rattle.plan_verifier.specs.Accepted.{IsVerified};
-ghost use Rattle.cell_control.specs.Control.{at_start};
+ghost use Rattle.cell_control.specs.Control.{control_at_start};
 ghost use Rattle.command_answers.specs.declared.command_fault.CommandFault.{CommandFault};
 ghost use Rattle.command_answers.specs.Instances.{IsFirstInstanceFault};
 ghost use Rattle.command_answers.specs.Plans.{BothParse, ParsesAsShop};
@@ -86,7 +86,7 @@ fn begun(alloc: Global, loaded: Loaded, cell: &mut Cell) -> u32
 /// The box of the controller of an accepted plan, or the error of the request for memory that was refused.
 fn boxed(alloc: Global, verified: Verified) -> Result<Box<Inner>, AllocError>
     ensures verified { IsVerified verified }
-    ensures start { IfOk result (λ inner. inner.value.controller ≡ at_start verified) }
+    ensures start { IfOk result (λ inner. inner.value.controller ≡ control_at_start verified) }
     ensures never_wrong { IfOk result (λ inner. GoesAsPromised inner.value.controller) }
 {
     let _plan = verified.shaped();

@@ -1,7 +1,7 @@
 //! What is written into the caller's room.
 
 ghost use Rattle.std.specs.Prelude.{◌≡◌, ◌≢◌, ◌⊎◌, None, Some, IfOk, IfErr, length};
-ghost use Rattle.command_answers.specs.Statuses.{status_of};
+ghost use Rattle.command_answers.specs.Statuses.{command_status_of};
 ghost use Rattle.cellplan_c.specs.Numbers.{answer_of};
 ghost use Rattle.cellplan_c.specs.Calls.{IsPut};
 ghost use Rattle.cellplan_c.specs.Cells.{AreOrdersPut, IsKeptBehind, WritesOrders};
@@ -64,7 +64,7 @@ pub fn put_text(text: &[u8], status: u32, room: &mut [u8], needed: &mut usize) -
 /// Writes the answer's text, if there is one and room for it. Returns the answer's status, or the fault's, or the
 /// status that there is no room.
 pub fn put_answer(outcome: Result<Answer, CommandFault>, room: &mut [u8], needed: &mut usize) -> u32
-    ensures fault { IfErr outcome (λ fault. (result ≡ status_of fault) × (needed.new ≡ 0) × (room.new ≡ room.old)) }
+    ensures fault { IfErr outcome (λ fault. (result ≡ command_status_of fault) × (needed.new ≡ 0) × (room.new ≡ room.old)) }
     ensures put { IfOk outcome (λ answer. IsPut answer.text.items answer.status result room.old room.new needed.new) }
 {
     match outcome {

@@ -12,7 +12,7 @@ use Rattle.plan_verifier.specs.declared.verdict.Judged.TheVariants.{Accepted, Re
 use Rattle.plan_verifier.specs.declared.verdict.Verdict.{Verdict}
 use Rattle.plan_verifier.specs.declared.verdict.Verdict.TheVariants.{Accepted as AcceptedPlan, Refused as RefusedPlan}
 use Rattle.plan_verifier.specs.declared.verdict.Why.TheVariants.{Cycle, Late}
-use Rattle.plan_explain.specs.{Known.IsJudged, FirstLines.IsFirstLine}
+use Rattle.plan_explain.specs.{Known.IsKnownVerdict, FirstLines.IsFirstLine}
 use Rattle.command_answers.specs.declared.answer.Answer.{Answer}
 use Rattle.command_answers.specs.declared.command_fault.CommandFault.{CommandFault}
 use Rattle.command_answers.specs.declared.pictures.Drawn.{Drawn}
@@ -50,7 +50,7 @@ module _ (p : PlannedShop) (names : NameBook) (s : KnownRest) (same : s.names �
       (subst (λ (c : Cell). Is names p c s.rest.present) there.cell (named (λ book q. Is book q s.rest.cell s.rest.present) is))
 
   -- the reasons are those of the whole plan
-  pub start_reasons : {E : Type 0} (said : Judged) (job : Option ℕ) (answered : Result Answer E) → IsAtStart p said s → IsJudged s.rest.plan s.rest.cell s.rest.present s.verdict
+  pub start_reasons : {E : Type 0} (said : Judged) (job : Option ℕ) (answered : Result Answer E) → IsAtStart p said s → IsKnownVerdict s.rest.plan s.rest.cell s.rest.present s.verdict
       → IfOk answered (IsAnswerBy s.names (Reasons job) s.rest.plan s.rest.cell s.rest.present s.verdict) → IfOk answered (AnswersRest names (Reasons job) p (start p) 0)
   start_reasons said job (Ok answer) there judged is =
       at_start said (λ book q c t. AnswersRest book (Reasons job) q c t answer) there (by_verdict s.names (Reasons job) s.rest.plan s.rest.cell s.rest.present s.verdict answer judged is)
@@ -65,11 +65,11 @@ module _ (at : Option ℕ) (p : PlannedShop) (names : NameBook) (s : KnownRest) 
   found_with log Is found is = named p names s found.named found.plan Is is
 
   -- the answer by its verdict is the one of the rest
-  answers : (wanted : PlanAnswer) (answer : Answer) → IsJudged s.rest.plan s.rest.cell s.rest.present s.verdict → IsAnswerBy s.names wanted s.rest.plan s.rest.cell s.rest.present s.verdict answer
+  answers : (wanted : PlanAnswer) (answer : Answer) → IsKnownVerdict s.rest.plan s.rest.cell s.rest.present s.verdict → IsAnswerBy s.names wanted s.rest.plan s.rest.cell s.rest.present s.verdict answer
       → AnswersRest s.names wanted s.rest.plan s.rest.cell s.rest.present answer
   answers wanted answer judged is = by_verdict s.names wanted s.rest.plan s.rest.cell s.rest.present s.verdict answer judged is
 
-  pub rest_line : (log : Option (List ℕ)) (wanted : PlanAnswer) (answer : Answer) → IsKnownRest at p names log s → IsJudged s.rest.plan s.rest.cell s.rest.present s.verdict
+  pub rest_line : (log : Option (List ℕ)) (wanted : PlanAnswer) (answer : Answer) → IsKnownRest at p names log s → IsKnownVerdict s.rest.plan s.rest.cell s.rest.present s.verdict
       → IsAnswerBy s.names wanted s.rest.plan s.rest.cell s.rest.present s.verdict answer → IsRestLine names wanted at p log answer
   rest_line None VerdictAlone answer found judged is =
       let by = begun (λ book q c t. IsAnswerBy book VerdictAlone q c t s.verdict answer) found is in verdict_line p s.verdict answer found.there.1 by.text by.status
@@ -97,7 +97,7 @@ module _ (at : Option ℕ) (p : PlannedShop) (names : NameBook) (s : KnownRest) 
   abbrev drawn_from : Drawn → NameBook → PlannedShop → Cell → ℕ → Option ℕ → List Entry → Type 0
   drawn_from drawn book q c t given entries = IsRestDrawn book q c t (line_at given entries t) (drawn_visits q entries) drawn
 
-  pub rest_drawing : (log : Option (List ℕ)) (drawn : Drawn) → IsKnownRest at p names log s → IsJudged s.rest.plan s.rest.cell s.rest.present s.verdict
+  pub rest_drawing : (log : Option (List ℕ)) (drawn : Drawn) → IsKnownRest at p names log s → IsKnownVerdict s.rest.plan s.rest.cell s.rest.present s.verdict
       → IsVerdictDrawn s.names s.rest.plan s.rest.cell s.rest.present (line_at s.at s.entries.items s.rest.present) (drawn_visits s.rest.plan s.entries.items) s.verdict drawn → IsRestDrawing names at p log drawn
   rest_drawing None drawn found judged is =
       let there = found.there.0 in
@@ -117,7 +117,7 @@ module _ (at : Option ℕ) (p : PlannedShop) (names : NameBook) (s : KnownRest) 
 
 module _ (at : Option ℕ) (p : PlannedShop) (names : NameBook) where
   pub answered : (log : Option (List ℕ)) (wanted : PlanAnswer) (found : Result KnownRest Answer) (outcome : Result Answer CommandFault) → IsFoundRest at p names log found
-      → IfOk found (λ s. IsJudged s.rest.plan s.rest.cell s.rest.present s.verdict) → IfOk found (λ s. IsOrMemory (IsAnswerBy s.names wanted s.rest.plan s.rest.cell s.rest.present s.verdict) outcome)
+      → IfOk found (λ s. IsKnownVerdict s.rest.plan s.rest.cell s.rest.present s.verdict) → IfOk found (λ s. IsOrMemory (IsAnswerBy s.names wanted s.rest.plan s.rest.cell s.rest.present s.verdict) outcome)
       → IfErr found (λ line. outcome ≡ Ok line) → IsOrMemory (IsRestLine names wanted at p log) outcome
   answered log wanted (Ok s) (Ok answer) found judged is line = rest_line at p names s log wanted answer found judged is
   answered log wanted (Ok s) (Err fault) found judged is line = is
@@ -131,7 +131,7 @@ module _ (at : Option ℕ) (p : PlannedShop) (names : NameBook) where
   moved (Some log) (Err line) outcome found is same = rw same (inr found)
   moved None (Err line) outcome found is same = absurd found
 
-  pub pictured : (log : Option (List ℕ)) (found : Result KnownRest Answer) (outcome : Result Drawn CommandFault) → IsFoundRest at p names log found → IfOk found (λ s. IsJudged s.rest.plan s.rest.cell s.rest.present s.verdict)
+  pub pictured : (log : Option (List ℕ)) (found : Result KnownRest Answer) (outcome : Result Drawn CommandFault) → IsFoundRest at p names log found → IfOk found (λ s. IsKnownVerdict s.rest.plan s.rest.cell s.rest.present s.verdict)
       → IfOk found (λ s. IsOrMemory (IsVerdictDrawn s.names s.rest.plan s.rest.cell s.rest.present (line_at s.at s.entries.items s.rest.present) (drawn_visits s.rest.plan s.entries.items) s.verdict) outcome)
       → IfErr found (λ line. outcome ≡ Ok (LineDrawn line)) → IsOrMemory (IsRestDrawing names at p log) outcome
   pictured log (Ok s) (Ok drawn) found judged is line = rest_drawing at p names s log drawn found judged is

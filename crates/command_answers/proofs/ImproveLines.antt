@@ -16,7 +16,7 @@ use Rattle.command_answers.specs.declared.command_fault.CommandFault.{CommandFau
 use Rattle.command_answers.specs.declared.command_fault.CommandFault.TheVariants.{Instance, Plan, Names, Read, Write, InputTooLong, Log, LogInUse, Memory}
 use Rattle.command_answers.specs.Checks.{verdict_status}
 use Rattle.command_answers.specs.Documents.{IsDocumentAnswer}
-use Rattle.command_answers.specs.Improving.{IsBest, IsStatusOf, IsBestAnswer, SearchBy}
+use Rattle.command_answers.specs.Improving.{IsBestMet, IsStatusOf, IsBestAnswer, SearchBy}
 
 status_is : (verdict : Verdict) → SaysAccepted verdict ↔ IsAcceptable (judged verdict) → IsStatusOf (judged verdict) (verdict_status verdict)
 status_is (Accepted verified) exact = inl (exact.0 tt, refl)
@@ -24,7 +24,7 @@ status_is (Refused back why) exact = inr ((λ accepted. exact.1 accepted), refl)
 
 module _ (made : SearchBy) (rounds : ℕ) (start : PlannedShop) where
   -- the text of a plan that was judged is the answer
-  pub best_answer_is : (verdict : Verdict) (outcome : Result Answer CommandFault) → IsBest made start (judged verdict) → rounds ≤ MAX_ROUNDS
+  pub best_answer_is : (verdict : Verdict) (outcome : Result Answer CommandFault) → IsBestMet made start (judged verdict) → rounds ≤ MAX_ROUNDS
       → SaysAccepted verdict ↔ IsAcceptable (judged verdict) → IsDocumentAnswer (judged verdict).plan (verdict_status verdict) outcome → IsBestAnswer made rounds start outcome
   best_answer_is verdict (Ok answer) is few exact text = inl (record {
     few_rounds = few;

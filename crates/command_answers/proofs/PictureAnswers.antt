@@ -18,7 +18,7 @@ use Rattle.run_gantt.specs.DrawnVisits.{drawn_visits}
 use Rattle.run_gantt.specs.LeavingsSoFar.{leavings_so_far}
 use Rattle.plan_schedule.specs.declared.picture_visits.DrawnRun.{DrawnRun}
 use Rattle.plan_schedule.specs.DrawnVisits.{IsDrawnRun}
-use Rattle.plan_explain.specs.Known.{IsJudged}
+use Rattle.plan_explain.specs.Known.{IsKnownVerdict}
 use Rattle.plan_verifier.specs.declared.verdict.Judged.{Judged}
 use Rattle.command_answers.specs.declared.pictures.Drawn.{Drawn}
 use Rattle.command_answers.specs.Pictures.{log_sheet, run_sheet, IsRunPicture, IsVerdictDrawn, IsRestDrawn}

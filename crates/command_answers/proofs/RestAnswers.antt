@@ -10,7 +10,7 @@ use Rattle.plan_verifier.specs.{declared.verdict.Judged.Judged, declared.verdict
 use Rattle.cell_control.specs.Begun.{IsRestFault}
 use Rattle.cell_control.specs.declared.rest_fault.RestFault.{RestFault}
 use Rattle.cell_control.specs.declared.rest_fault.RestFault.TheVariants.{Cycle, Memory as NoMovesMemory}
-use Rattle.plan_explain.specs.Known.{HasRanks, IsJudged}
+use Rattle.plan_explain.specs.Known.{HasRanks, IsKnownVerdict}
 use Rattle.command_answers.specs.declared.answer.Answer.{Answer}
 use Rattle.command_answers.specs.declared.command_fault.CommandFault.{CommandFault}
 use Rattle.command_answers.specs.declared.rests.PlanAnswer.{PlanAnswer}
@@ -21,16 +21,16 @@ use Rattle.command_answers.specs.Moves.{AreMovesAhead, IsMovesAnswer, moves_comm
 use Rattle.command_answers.specs.Rests.{IsAnswerBy, IsLogAnswer, IsRestLine, AnswersRest, rest_status}
 
 -- an accepted rest has its ranks
-pub has_ranks : (p : PlannedShop) (c : Cell) (t : ℕ) (verdict : Judged) → IsJudged p c t verdict → HasRanks p verdict
+pub has_ranks : (p : PlannedShop) (c : Cell) (t : ℕ) (verdict : Judged) → IsKnownVerdict p c t verdict → HasRanks p verdict
 has_ranks p c t (Accepted times) judged = judged.accepted.0.ranks
 has_ranks p c t (Refused why) judged = tt
 
 -- the text of the verdict on the rest is what is printed of it
-pub by_verdict : (names : NameBook) (wanted : PlanAnswer) (p : PlannedShop) (c : Cell) (t : ℕ) (verdict : Judged) (answer : Answer) → IsJudged p c t verdict → IsAnswerBy names wanted p c t verdict answer → AnswersRest names wanted p c t answer
+pub by_verdict : (names : NameBook) (wanted : PlanAnswer) (p : PlannedShop) (c : Cell) (t : ℕ) (verdict : Judged) (answer : Answer) → IsKnownVerdict p c t verdict → IsAnswerBy names wanted p c t verdict answer → AnswersRest names wanted p c t answer
 by_verdict names wanted p c t verdict answer judged is = record { verdict = verdict; judged = judged; text = is.text; status = is.status }
 
 -- so of one that may not come
-pub judged_answered : {E : Type 0} (names : NameBook) (wanted : PlanAnswer) (p : PlannedShop) (c : Cell) (t : ℕ) (verdict : Judged) (answered : Result Answer E) → IsJudged p c t verdict
+pub judged_answered : {E : Type 0} (names : NameBook) (wanted : PlanAnswer) (p : PlannedShop) (c : Cell) (t : ℕ) (verdict : Judged) (answered : Result Answer E) → IsKnownVerdict p c t verdict
     → IfOk answered (IsAnswerBy names wanted p c t verdict) → IfOk answered (AnswersRest names wanted p c t)
 judged_answered names wanted p c t verdict (Ok answer) judged is = by_verdict names wanted p c t verdict answer judged is
 judged_answered names wanted p c t verdict (Err error) judged is = tt

@@ -14,7 +14,7 @@ use Rattle.orlib_read.specs.declared.document.NotWritten.TheVariants.{NotReadBac
 use Rattle.plan_revise.specs.declared.change.Change.{Change}
 use Rattle.plan_revise.specs.declared.change.NotRevised.{NotRevised}
 use Rattle.plan_revise.specs.declared.change.NotRevised.TheVariants.{Refused, Memory as NoMemory}
-use Rattle.plan_revise.specs.Revised.{IsReason}
+use Rattle.plan_revise.specs.Revised.{IsReasonNotRevised}
 use Rattle.command_answers.specs.declared.answer.Answer.{Answer}
 use Rattle.command_answers.specs.declared.command_fault.CommandFault.{CommandFault}
 use Rattle.command_answers.specs.declared.command_fault.CommandFault.TheVariants.{Instance, Plan, Names, Read, Write, InputTooLong, Log, LogInUse, Memory}
@@ -27,19 +27,19 @@ use Rattle.command_answers.specs.Steps.{IsOrMemory}
 
 module _ (p : PlannedShop) (c : Cell) (t : ℕ) (changes : List Change) where
   -- its place is that of one of the changes
-  pub placed : (reason : NotRevised) (why : Unrevised) → IsReason p c t changes reason → why ≡ unrevised_of reason → IsPlaced changes why
+  pub placed : (reason : NotRevised) (why : Unrevised) → IsReasonNotRevised p c t changes reason → why ≡ unrevised_of reason → IsPlaced changes why
   placed (Refused n fault) why is same = subst (IsPlaced changes) (sym same) (slice_get_within changes n is.first.change is.first.there)
   placed NoMemory why is same = subst (IsPlaced changes) (sym same) tt
 
   module _ (prints : Revised) (description : List ℕ) (values : List (List ℕ)) where
-    refused_at : (reason : NotRevised) (outcome : Result Answer CommandFault) → IsReason p c t changes reason → IsUnrevised changes values (unrevised_of reason) outcome
+    refused_at : (reason : NotRevised) (outcome : Result Answer CommandFault) → IsReasonNotRevised p c t changes reason → IsUnrevised changes values (unrevised_of reason) outcome
         → IsOrMemory (IsChangeRefused prints description changes values p c t) outcome
     refused_at (Refused n fault) (Ok answer) is line = record { place = n; fault = fault; first = is; change = line.0; there = line.1; line = line.2.0; refused = line.2.1 }
     refused_at (Refused n fault) (Err no_memory) is line = line.2
     refused_at NoMemory outcome is no_memory = rw no_memory refl
 
     -- what is answered where nothing is changed
-    pub refused_answered : (reason : NotRevised) (why : Unrevised) (outcome : Result Answer CommandFault) → IsReason p c t changes reason → why ≡ unrevised_of reason → IsUnrevised changes values why outcome
+    pub refused_answered : (reason : NotRevised) (why : Unrevised) (outcome : Result Answer CommandFault) → IsReasonNotRevised p c t changes reason → why ≡ unrevised_of reason → IsUnrevised changes values why outcome
         → IsOrMemory (IsChangeRefused prints description changes values p c t) outcome
     refused_answered reason why outcome is same answered = refused_at reason outcome is (subst (λ (x : Unrevised). IsUnrevised changes values x outcome) same answered)
 

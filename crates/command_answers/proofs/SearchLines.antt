@@ -10,11 +10,11 @@ use Rattle.command_answers.specs.declared.answer.Answer.{Answer}
 use Rattle.command_answers.specs.declared.command_fault.CommandFault.{CommandFault}
 use Rattle.command_answers.specs.declared.command_fault.CommandFault.TheVariants.{Instance, Plan, Names, Read, Write, InputTooLong, Log, LogInUse, Memory}
 use Rattle.command_answers.specs.Documents.{IsDocumentAnswer}
-use Rattle.command_answers.specs.Search.{IsFound, IsSearchAnswer, IsNoPlanAnswer}
+use Rattle.command_answers.specs.Search.{IsFoundPlan, IsSearchAnswer, IsNoPlanAnswer}
 
 module _ (s : PlanSearch) (rounds : ℕ) where
   -- a plan that was found
-  found_is : (v : PlannedShop) → v ≡ with_order s.task v.plan.order → IsAccepted v → IsSought s rounds v.plan.order → IsFound s rounds v.plan
+  found_is : (v : PlannedShop) → v ≡ with_order s.task v.plan.order → IsAccepted v → IsSought s rounds v.plan.order → IsFoundPlan s rounds v.plan
   found_is v same accepted sought =
       let with_shop : JobShop → PlannedShop = λ shop. record { shop = shop; plan = v.plan } in
       let is : with_shop s.task.shop ≡ v = ap with_shop (sym (ap (λ (x : PlannedShop). x.shop) same)) in

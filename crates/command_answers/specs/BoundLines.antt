@@ -10,7 +10,7 @@ use Rattle.plan_bounds.specs.Bounds.{ShopTimes, times_of, job_count, job_bound}
 use Rattle.plan_bounds.specs.Makespan.{IsLeastMakespan}
 use Rattle.people_names.specs.NameBooks.{NameBook, no_names}
 use Rattle.people_names.specs.Words.{job_word, machine_word, moment_word, is_budget_printed}
-use Rattle.plan_explain.specs.Arcs.{before}
+use Rattle.plan_explain.specs.Arcs.{words_and}
 use Rattle.command_answers.specs.declared.answer.Answer.{Answer}
 use Rattle.command_answers.specs.Shapes.{IsLineOfFault}
 use Rattle.command_answers.specs.Serial.{serially}
@@ -22,7 +22,7 @@ by_words names (Job j) = codes " by job " ++ job_word names j
 
 -- `makespan at least N by machine M`, or `.. by job J`
 abbrev pub makespan_line : NameBook → LeastMakespan → List ℕ
-makespan_line names least = before (codes "makespan at least " ∷ moment_word names least.at_least ∷ by_words names least.by ∷ []) (codes "\n")
+makespan_line names least = words_and (codes "makespan at least " ∷ moment_word names least.at_least ∷ by_words names least.by ∷ []) (codes "\n")
 
 -- ` budget B`, and ` never` where the bound is past it; where one that nobody gave isn't printed for people, ` no budget`
 abbrev pub budget_words : NameBook → ℕ → ℕ → List ℕ
@@ -33,7 +33,7 @@ budget_words names bound budget =
 
 -- `job J leaves at least N budget B`, and ` never` where N is past B
 abbrev pub bound_line : NameBook → ℕ → ℕ → ℕ → List ℕ
-bound_line names j bound budget = before (codes "job " ∷ job_word names j ∷ codes " leaves at least " ∷ moment_word names bound ∷ budget_words names bound budget ∷ []) (codes "\n")
+bound_line names j bound budget = words_and (codes "job " ∷ job_word names j ∷ codes " leaves at least " ∷ moment_word names bound ∷ budget_words names bound budget ∷ []) (codes "\n")
 
 module _ (names : NameBook) (t : ShopTimes) (budgets : List ℕ) where
   -- the lines of the first n jobs
@@ -51,12 +51,12 @@ module _ (t : ShopTimes) (budgets : List ℕ) where
   CanBeInTime n = (j : ℕ) → j < n → job_bound t j ≤ slice_index budgets j
 
   -- job j has a bound past its budget
-  abbrev pub IsNeverInTime : ℕ → Type 0
-  IsNeverInTime j = (j < job_count t) × (slice_index budgets j < job_bound t j)
+  abbrev pub IsBoundPastBudget : ℕ → Type 0
+  IsBoundPastBudget j = (j < job_count t) × (slice_index budgets j < job_bound t j)
 
   -- the status is 1 where a job has a bound past its budget, else 0
   abbrev pub IsBoundsStatus : ℕ → Type 0
-  IsBoundsStatus status = (CanBeInTime (job_count t) × (status ≡ 0)) ⊎ ((j : ℕ) × IsNeverInTime j × (status ≡ 1))
+  IsBoundsStatus status = (CanBeInTime (job_count t) × (status ≡ 0)) ⊎ ((j : ℕ) × IsBoundPastBudget j × (status ≡ 1))
 
 -- the lines of the bounds of a shop with these releases and cleaning times, and of these budgets
 pub record AreBoundLines (names : NameBook) (t : ShopTimes) (budgets : List ℕ) (answer : Answer) : Type 0 where

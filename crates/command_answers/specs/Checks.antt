@@ -21,7 +21,7 @@ verdict_status (Accepted verified) = 0
 verdict_status (Refused back why) = 1
 
 -- the verdict on a well-shaped plan: it is accepted and acceptable, or comes back with the reason for the refusal
-pub record IsJudged (p : PlannedShop) (verdict : Verdict) : Type 0 where
+pub record IsVerdictOf (p : PlannedShop) (verdict : Verdict) : Type 0 where
   pub well_shaped : IsWellShaped p
   pub accepted : OnAccepted (λ verified. (verified.planned ≡ p) × IsAcceptable p) verdict
   pub refused : OnRefused (λ back why. (back ≡ p) × IsReason p why) verdict
@@ -29,7 +29,7 @@ pub record IsJudged (p : PlannedShop) (verdict : Verdict) : Type 0 where
 -- what is said of a plan: the first fault of its shape, or the verdict on it
 abbrev pub IsLoaded : PlannedShop → Loaded → Type 0
 IsLoaded p (NotShaped fault) = IsFirstShapeFault p fault
-IsLoaded p (Judged verdict) = IsJudged p verdict
+IsLoaded p (Judged verdict) = IsVerdictOf p verdict
 
 -- the accepted plan; what is said of any other comes back
 abbrev pub accepted_in : Loaded → Result VerifiedPlan Loaded

@@ -14,7 +14,7 @@ use Rattle.command_answers.specs.declared.answer.Answer.{Answer}
 use Rattle.command_answers.specs.declared.command_fault.CommandFault.{CommandFault}
 use Rattle.command_answers.specs.declared.command_fault.CommandFault.TheVariants.{Plan, Memory}
 use Rattle.command_answers.specs.Deciding.{IsDecisionAnswer, IsDecisionText, IsFoundUnread}
-use Rattle.command_answers.specs.Rests.{IsOfRun, IsRunRefused}
+use Rattle.command_answers.specs.Rests.{RecordsRun, IsRunRefused}
 use Rattle.command_answers.specs.Shapes.{IsLineOfFault}
 use Rattle.command_answers.specs.Steps.{IsOrMemory}
 
@@ -43,7 +43,7 @@ module _ (names : NameBook) (aim : Aim) where
 
 -- what is answered of a plan that is well shaped, where the job that is asked for is one of its shop: that of the rest of the run that the lines record; or the line of the log's first fault, or of a moment that is past, or that memory ran out
 abbrev pub IsRestDecisionAnswer : NameBook → Option ℕ → List (List ℕ) → PlannedShop → Aim → Result Answer CommandFault → Type 0
-IsRestDecisionAnswer names at lines p aim outcome = IsOfRun (λ c entries t. IsDecisionFrom names aim p c t outcome) at lines p ⊎ IsOrMemory (IsRunRefused at lines p) outcome
+IsRestDecisionAnswer names at lines p aim outcome = RecordsRun (λ c entries t. IsDecisionFrom names aim p c t outcome) at lines p ⊎ IsOrMemory (IsRunRefused at lines p) outcome
 
 -- what is answered there where a run is: so of its log, or before it has begun of any plan with these numbers
 abbrev pub IsRunDecision : NameBook → Aim → Option ℕ → PlannedShop → Option (List ℕ) → Result Answer CommandFault → Type 0

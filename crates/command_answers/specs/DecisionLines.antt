@@ -9,8 +9,8 @@ use Rattle.plan_decide.specs.declared.decided.Excluded.TheVariants.{Alone, Pair,
 use Rattle.plan_decide.specs.Excluding.{jobs_in}
 
 -- the words of the jobs, with a blank before each
-abbrev pub job_words : NameBook → List ℕ → List ℕ
-job_words names js = flat_map (λ j. codes " " ++ job_word names j) js
+abbrev pub words_of_jobs : NameBook → List ℕ → List ℕ
+words_of_jobs names js = flat_map (λ j. codes " " ++ job_word names j) js
 
 -- ` or fewer`, or nothing
 abbrev pub fewer_if : Bool → List ℕ
@@ -24,7 +24,7 @@ fewer_words (Several js or_fewer) = fewer_if or_fewer
 
 -- the words of the jobs that exclude each other, and that
 abbrev pub excluded_words : NameBook → Excluded → List ℕ
-excluded_words names e = job_words names (jobs_in e) ++ fewer_words e
+excluded_words names e = words_of_jobs names (jobs_in e) ++ fewer_words e
 
 -- `never jobs J0 J1 ..`
 abbrev pub never_line : NameBook → Excluded → List ℕ

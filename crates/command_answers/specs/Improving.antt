@@ -35,7 +35,7 @@ abbrev pub RoundsOf : {B : Type 0} → ℕ → (B → PlannedShop → Left → �
 RoundsOf rounds may improvers s = Rounds s may improvers rounds
 
 -- the best plan that is met: only the orders may differ, no cycle, never worse, exactly what the questions make of the start, and accepted if the start is
-pub record IsBest (made : SearchBy) (start best : PlannedShop) : Type 0 where
+pub record IsBestMet (made : SearchBy) (start best : PlannedShop) : Type 0 where
   pub same : IsReordered start best
   pub acyclic : HasNoCycle best
   pub never_worse : IsNeverWorse whole_plan start best
@@ -50,7 +50,7 @@ IsStatusOf best status = (IsAcceptable best × (status ≡ 0)) ⊎ ((IsAcceptabl
 pub record IsBestText (made : SearchBy) (rounds : ℕ) (start : PlannedShop) (answer : Answer) : Type 0 where
   pub few_rounds : rounds ≤ MAX_ROUNDS
   pub best : PlannedShop
-  pub is : IsBest made start best
+  pub is : IsBestMet made start best
   pub text : IsDocumentOf best.plan answer.status answer
   pub status : IsStatusOf best answer.status
 
@@ -63,7 +63,7 @@ pub record IsTooManyLine (rounds : ℕ) (answer : Answer) : Type 0 where
 -- the best plan has a text that isn't read as this plan
 pub record IsBestUnreadable (made : SearchBy) (start : PlannedShop) : Type 0 where
   pub best : PlannedShop
-  pub is : IsBest made start best
+  pub is : IsBestMet made start best
   pub unreadable : IsPlanText (plan_lines best.plan) best.plan → ⊥
 
 -- what is answered where the plan is well shaped: the text of the best plan, the line of too many rounds, that the text isn't read as that plan, or that memory ran out

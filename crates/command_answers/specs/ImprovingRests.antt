@@ -27,7 +27,7 @@ use Rattle.command_answers.specs.declared.command_fault.CommandFault.{CommandFau
 use Rattle.command_answers.specs.declared.command_fault.CommandFault.TheVariants.{Plan, Memory}
 use Rattle.command_answers.specs.Documents.{IsDocumentOf, IsDocumentAnswer}
 use Rattle.command_answers.specs.Improving.{IsBestAnswer, IsTooManyLine, SearchBy}
-use Rattle.command_answers.specs.Rests.{IsOfRun, IsRunRefused}
+use Rattle.command_answers.specs.Rests.{RecordsRun, IsRunRefused}
 use Rattle.command_answers.specs.Steps.{IsOrMemory}
 
 -- the best plan that is met for the rest of the run that these lines record, from its cell and a present moment on: only the orders may differ, the lines record a run of it, no cycle, never worse for the rest than the one with which the search begins, exactly what the questions make of that, and its rest is accepted if the start's is
@@ -71,14 +71,14 @@ pub record IsRestCycle (start : PlannedShop) (c : Cell) (t : ℕ) (answer : Answ
 -- what is answered after at most as many rounds as may be asked for: the text of the best plan; or a line, of a cycle, of the log's first fault, or of a moment that is past
 abbrev pub IsRestFound : SearchBy → Option ℕ → List (List ℕ) → PlannedShop → Answer → Type 0
 IsRestFound made at lines start answer =
-    IsOfRun (λ c entries t. IsBestRestText made lines start c t answer ⊎ IsRestCycle start c t answer) at lines start ⊎ IsRunRefused at lines start answer
+    RecordsRun (λ c entries t. IsBestRestText made lines start c t answer ⊎ IsRestCycle start c t answer) at lines start ⊎ IsRunRefused at lines start answer
 
 -- what is answered of a plan that is well shaped: that, or the line of too many rounds; that the text isn't read as the best plan; or that memory ran out
 abbrev pub IsRestAnswer : SearchBy → Option ℕ → ℕ → List (List ℕ) → PlannedShop → Result Answer CommandFault → Type 0
 IsRestAnswer made at rounds lines start (Ok answer) = ((rounds ≤ MAX_ROUNDS) × IsRestFound made at lines start answer) ⊎ IsTooManyLine rounds answer
 IsRestAnswer made at rounds lines start (Err Memory) = Unit {0}
 IsRestAnswer made at rounds lines start (Err (Plan fault)) =
-    (fault ≡ NotReadBack) × (rounds ≤ MAX_ROUNDS) × IsOfRun (λ c entries t. IsBestRestUnreadable made lines start c t) at lines start
+    (fault ≡ NotReadBack) × (rounds ≤ MAX_ROUNDS) × RecordsRun (λ c entries t. IsBestRestUnreadable made lines start c t) at lines start
 IsRestAnswer made at rounds lines start (Err other) = ⊥
 
 -- what is answered where a run is: so of its log, or before it has begun of the whole plan

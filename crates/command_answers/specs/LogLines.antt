@@ -17,13 +17,13 @@ use Rattle.command_answers.specs.declared.logs.LogAnswer.TheVariants.{Numbers, D
 use Rattle.command_answers.specs.Steps.{IsOrMemory}
 
 -- whether the run has ended, in words
-abbrev pub end_words : Bool → List ℕ
-end_words true = codes " complete\n"
-end_words false = codes " partial\n"
+abbrev pub run_end_words : Bool → List ℕ
+run_end_words true = codes " complete\n"
+run_end_words false = codes " partial\n"
 
 -- the line of a log that records a run, by its numbers
 abbrev pub kept_line : Audit → List ℕ
-kept_line run = codes "log kept reports " ++ decimal run.reports ++ codes " orders " ++ decimal run.orders ++ codes " last " ++ decimal run.last ++ end_words run.complete
+kept_line run = codes "log kept reports " ++ decimal run.reports ++ codes " orders " ++ decimal run.orders ++ codes " last " ++ decimal run.last ++ run_end_words run.complete
 
 -- the line of a log that is refused: the number of its first bad line, and the name of the fault
 abbrev pub log_refused_line : ℕ → List ℕ → List ℕ

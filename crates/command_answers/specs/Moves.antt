@@ -8,7 +8,7 @@ use Rattle.cell_control.specs.declared.rest_fault.RestFault.{RestFault}
 use Rattle.cell_control.specs.declared.rest_fault.RestFault.TheVariants.{Memory}
 use Rattle.people_names.specs.NameBooks.{NameBook}
 use Rattle.plan_verifier.specs.declared.verdict.Judged.{Judged}
-use Rattle.plan_explain.specs.Known.{IsJudged}
+use Rattle.plan_explain.specs.Known.{IsKnownVerdict}
 use Rattle.plan_explain.specs.FirstLines.{IsFirstLine}
 use Rattle.plan_moves.specs.MovesFrom.{AreMovesFrom}
 use Rattle.plan_moves.specs.MoveLines.{move_lines}
@@ -35,7 +35,7 @@ moves_command_fault fault = None
 -- what is printed of the moves from cell c and moment t on: the first line of the verdict on the rest, with its status, and the moves below it
 pub record IsMovesAnswer (names : NameBook) (p : PlannedShop) (c : Cell) (t : ℕ) (answer : Answer) : Type 0 where
   pub verdict : Judged
-  pub judged : IsJudged p c t verdict
+  pub judged : IsKnownVerdict p c t verdict
   pub first : List ℕ
   pub line : IsFirstLine p c t verdict first
   pub below : List ℕ

@@ -17,7 +17,7 @@ use Rattle.run_picture.specs.PictureText.{IsPicture}
 use Rattle.plan_verifier.specs.declared.verdict.Judged.{Judged}
 use Rattle.plan_verifier.specs.declared.verdict.Judged.TheVariants.{Accepted, Refused}
 use Rattle.plan_verifier.specs.declared.verdict.Why.TheVariants.{Cycle, Late}
-use Rattle.plan_explain.specs.Known.{IsJudged}
+use Rattle.plan_explain.specs.Known.{IsKnownVerdict}
 use Rattle.plan_explain.specs.FirstLines.{cycle_line}
 use Rattle.plan_schedule.specs.declared.picture_visits.DrawnRun.{DrawnRun}
 use Rattle.plan_schedule.specs.DrawnVisits.{IsDrawnRun}
@@ -32,7 +32,7 @@ use Rattle.command_answers.specs.declared.pictures.Drawn.TheVariants.{Picture, L
 use Rattle.command_answers.specs.Steps.{Concludes, IsOrMemory}
 use Rattle.command_answers.specs.Shapes.{IsNotShapedLine}
 use Rattle.command_answers.specs.LogLines.{IsLogRefused}
-use Rattle.command_answers.specs.Rests.{IsOfRun, IsRunRefused}
+use Rattle.command_answers.specs.Rests.{RecordsRun, IsRunRefused}
 use Rattle.command_answers.specs.Commands.{AsksOfRun, IfShapedBy, InputPaths, RunPaths, WithBoth, WithNamesAndLog}
 
 -- nothing is drawn, but there is such a line
@@ -93,7 +93,7 @@ module _ (names : NameBook) (p : PlannedShop) (c : Cell) (t : ℕ) (line : Optio
   -- what comes of a cell: the verdict on the rest is drawn
   pub record IsRestDrawn (drawn : Drawn) : Type 0 where
     pub verdict : Judged
-    pub judged : IsJudged p c t verdict
+    pub judged : IsKnownVerdict p c t verdict
     pub is : IsVerdictDrawn verdict drawn
 
 -- the present moment has a line, unless no moment is given and the log records nothing
@@ -106,7 +106,7 @@ line_at (Some given) entries t = Some t
 abbrev pub IsRestDrawing : NameBook → Option ℕ → PlannedShop → Option (List ℕ) → Drawn → Type 0
 IsRestDrawing names at p None drawn = IsRestDrawn names p (start p) 0 None [] drawn
 IsRestDrawing names at p (Some log) drawn =
-    IsOfRun (λ c entries t. IsRestDrawn names p c t (line_at at entries t) (drawn_visits p entries) drawn) at (ended_lines log) p
+    RecordsRun (λ c entries t. IsRestDrawn names p c t (line_at at entries t) (drawn_visits p entries) drawn) at (ended_lines log) p
     ⊎ IsLineAlone (IsRunRefused at (ended_lines log) p) drawn
 
 module _ {W : Type 0} (gives : W → List ℕ → Result (List ℕ) CommandFault → W → Type 0) where

@@ -11,7 +11,7 @@ use Rattle.run_log.specs.declared.present_run.RunFault.TheVariants.{Log, Present
 use Rattle.plan_verifier.specs.declared.verdict.Judged.{Judged}
 use Rattle.plan_verifier.specs.declared.verdict.Judged.TheVariants.{Accepted, Refused}
 use Rattle.people_names.specs.NameBooks.{NameBook}
-use Rattle.plan_explain.specs.{Known.IsJudged, FirstLines.IsFirstLine, Explained.IsExplained}
+use Rattle.plan_explain.specs.{Known.IsKnownVerdict, FirstLines.IsFirstLine, Explained.IsExplained}
 use Rattle.plan_schedule.specs.Scheduled.{IsScheduled}
 use Rattle.command_answers.specs.declared.answer.Answer.{Answer}
 use Rattle.command_answers.specs.declared.rests.PlanAnswer.{PlanAnswer}
@@ -46,7 +46,7 @@ pub record IsAnswerBy (names : NameBook) (wanted : PlanAnswer) (p : PlannedShop)
 -- what is printed of the rest from a cell c and a present moment t on: the text of the verdict on it, with its status
 pub record AnswersRest (names : NameBook) (wanted : PlanAnswer) (p : PlannedShop) (c : Cell) (t : ℕ) (answer : Answer) : Type 0 where
   pub verdict : Judged
-  pub judged : IsJudged p c t verdict
+  pub judged : IsKnownVerdict p c t verdict
   pub text : IsTextOf names wanted p c t verdict answer.text.items
   pub status : answer.status ≡ rest_status verdict
 
@@ -90,7 +90,7 @@ abbrev pub IsRunRefused : Option ℕ → List (List ℕ) → PlannedShop → Ans
 IsRunRefused at lines p answer = IsLogRefused p lines answer ⊎ IsRestPast at lines p answer
 
 -- the lines record a run of the plan, and Comes holds of its cell, its entries and the present moment
-pub record IsOfRun (Comes : Cell → List Entry → ℕ → Type 0) (at : Option ℕ) (lines : List (List ℕ)) (p : PlannedShop) : Type 0 where
+pub record RecordsRun (Comes : Cell → List Entry → ℕ → Type 0) (at : Option ℕ) (lines : List (List ℕ)) (p : PlannedShop) : Type 0 where
   pub cell : Cell
   pub entries : List Entry
   pub present : ℕ
@@ -99,7 +99,7 @@ pub record IsOfRun (Comes : Cell → List Entry → ℕ → Type 0) (at : Option
 
 -- what is printed of a log: this of the rest of the run that its whole lines record, or why there is none
 abbrev pub IsLogAnswer : (PlannedShop → Cell → ℕ → Answer → Type 0) → Option ℕ → PlannedShop → List ℕ → Answer → Type 0
-IsLogAnswer AnswersAt at p log answer = IsOfRun (λ c entries t. AnswersAt p c t answer) at (ended_lines log) p ⊎ IsRunRefused at (ended_lines log) p answer
+IsLogAnswer AnswersAt at p log answer = RecordsRun (λ c entries t. AnswersAt p c t answer) at (ended_lines log) p ⊎ IsRunRefused at (ended_lines log) p answer
 
 -- what is printed where a run is: so of its log, or before it has begun of the whole plan
 abbrev pub IsRestLine : NameBook → PlanAnswer → Option ℕ → PlannedShop → Option (List ℕ) → Answer → Type 0

@@ -17,7 +17,7 @@ use Rattle.plan_revise.specs.declared.change.Change.TheVariants.{Until, Add, Scr
 use Rattle.plan_revise.specs.declared.change.ChangeFault.{ChangeFault}
 use Rattle.plan_revise.specs.declared.change.NotRevised.{NotRevised}
 use Rattle.plan_revise.specs.declared.change.NotRevised.TheVariants.{Refused, Memory as NoMemory}
-use Rattle.plan_revise.specs.Names.{fault_name}
+use Rattle.plan_revise.specs.Names.{change_fault_name}
 use Rattle.plan_revise.specs.Revised.{IsRevised, IsRefusedAt}
 use Rattle.command_answers.specs.declared.answer.Answer.{Answer}
 use Rattle.command_answers.specs.declared.command_fault.CommandFault.{CommandFault}
@@ -28,7 +28,7 @@ use Rattle.command_answers.specs.declared.revises.Revised.{Revised}
 use Rattle.command_answers.specs.declared.revises.Revised.TheVariants.{PlanText, InstanceText}
 use Rattle.command_answers.specs.Documents.{IsDocumentAnswer}
 use Rattle.command_answers.specs.ImprovingRests.{IsLineOfCycle}
-use Rattle.command_answers.specs.Rests.{IsOfRun, IsRunRefused}
+use Rattle.command_answers.specs.Rests.{RecordsRun, IsRunRefused}
 use Rattle.command_answers.specs.Steps.{IsOrMemory}
 
 -- ---- the line of a change that can't be
@@ -41,21 +41,21 @@ flag_of (Scrap job) = codes "--scrap "
 flag_of (Down machine) = codes "--down "
 
 -- a blank, or any other printable character of ASCII
-abbrev pub is_printable : ℕ → Bool
-is_printable b = nat_le 32 b && nat_le b 126
+abbrev pub is_visible : ℕ → Bool
+is_visible b = nat_le 32 b && nat_le b 126
 
 -- the bytes before the first that isn't printable
-abbrev pub printable_part : List ℕ → List ℕ
-printable_part [] = []
-printable_part (b ∷ bytes) = if is_printable b then b ∷ printable_part bytes else []
+abbrev pub visible_part : List ℕ → List ℕ
+visible_part [] = []
+visible_part (b ∷ bytes) = if is_visible b then b ∷ visible_part bytes else []
 
 -- the word of a change: the option, a blank and its value, up to the first byte that isn't printable
 abbrev pub change_word : Change → List ℕ → List ℕ
-change_word change value = flag_of change ++ printable_part value
+change_word change value = flag_of change ++ visible_part value
 
 -- `change refused WORD NAME`
 abbrev pub change_refused_line : Change → List ℕ → ChangeFault → List ℕ
-change_refused_line change value fault = codes "change refused " ++ change_word change value ++ codes " " ++ fault_name fault ++ codes "\n"
+change_refused_line change value fault = codes "change refused " ++ change_word change value ++ codes " " ++ change_fault_name fault ++ codes "\n"
 
 -- the fault of a command where no instance is written
 abbrev pub unwritten_fault : NotWritten → CommandFault
@@ -98,9 +98,9 @@ IsInstanceAnswer description shop (Err (Plan fault)) = (fault ≡ NotReadBack) �
 IsInstanceAnswer description shop (Err other) = ⊥
 
 -- what is printed of a shop and its plan
-abbrev pub IsPrinted : Revised → List ℕ → PlannedShop → Result Answer CommandFault → Type 0
-IsPrinted PlanText description q outcome = IsDocumentAnswer q.plan 0 outcome
-IsPrinted InstanceText description q outcome = IsInstanceAnswer description q.shop outcome
+abbrev pub IsPrintedRevision : Revised → List ℕ → PlannedShop → Result Answer CommandFault → Type 0
+IsPrintedRevision PlanText description q outcome = IsDocumentAnswer q.plan 0 outcome
+IsPrintedRevision InstanceText description q outcome = IsInstanceAnswer description q.shop outcome
 
 module _ (prints : Revised) (description : List ℕ) (changes : List Change) (values : List (List ℕ)) (p : PlannedShop) (c : Cell) (t : ℕ) where
   -- the line of the first change that can't be, with the value of its word
@@ -117,7 +117,7 @@ module _ (prints : Revised) (description : List ℕ) (changes : List Change) (va
   pub record IsRevisedText (outcome : Result Answer CommandFault) : Type 0 where
     pub revised : PlannedShop
     pub is : IsRevised p c t changes revised
-    pub printed : IsPrinted prints description revised outcome
+    pub printed : IsPrintedRevision prints description revised outcome
 
   -- all changes are made, or the first that can't be is printed
   abbrev pub IsChanged : Result Answer CommandFault → Type 0
@@ -136,5 +136,5 @@ module _ (prints : Revised) (description : List ℕ) (changes : List Change) (va
 -- what is answered of a log: what is changed from the rest of the run that its whole lines record on, or why there is none
 abbrev pub IsReviseAnswer : Revised → List ℕ → Option ℕ → List Change → List (List ℕ) → PlannedShop → List ℕ → Result Answer CommandFault → Type 0
 IsReviseAnswer prints description at changes values p log outcome =
-    IsOfRun (λ c entries t. IsRevisedRest prints description changes values p c t outcome) at (ended_lines log) p
+    RecordsRun (λ c entries t. IsRevisedRest prints description changes values p c t outcome) at (ended_lines log) p
     ⊎ IsOrMemory (IsRunRefused at (ended_lines log) p) outcome

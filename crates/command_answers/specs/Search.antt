@@ -16,7 +16,7 @@ use Rattle.command_answers.specs.Documents.{IsDocumentOf}
 use Rattle.command_answers.specs.Shapes.{IsLineOfFault}
 
 -- a plan that the search allows: the first proposal that is accepted, or else the serial plan
-pub record IsFound (s : PlanSearch) (rounds : ℕ) (found : ShopPlan) : Type 0 where
+pub record IsFoundPlan (s : PlanSearch) (rounds : ℕ) (found : ShopPlan) : Type 0 where
   pub same : record { shop = s.task.shop; plan = found } ≡ with_order s.task found.order
   pub accepted : IsAccepted (record { shop = s.task.shop; plan = found })
   pub sought : IsSought s rounds found.order
@@ -24,7 +24,7 @@ pub record IsFound (s : PlanSearch) (rounds : ℕ) (found : ShopPlan) : Type 0 w
 -- the text of a plan that the search allows
 pub record IsFoundText (s : PlanSearch) (rounds : ℕ) (answer : Answer) : Type 0 where
   pub plan : ShopPlan
-  pub found : IsFound s rounds plan
+  pub found : IsFoundPlan s rounds plan
   pub text : IsDocumentOf plan 0 answer
 
 -- the fault of a command that the search's is, if memory ran out
@@ -58,7 +58,7 @@ IsSearchLine s rounds answer = IsFoundText s rounds answer ⊎ IsNoPlanText s ro
 -- a plan that the search allows has a text that isn't read as this plan
 pub record IsFoundUnreadable (s : PlanSearch) (rounds : ℕ) : Type 0 where
   pub plan : ShopPlan
-  pub found : IsFound s rounds plan
+  pub found : IsFoundPlan s rounds plan
   pub unreadable : IsPlanText (plan_lines plan) plan → ⊥
 
 -- what is answered of the search: its line, or that the text of the plan that was found isn't read as that plan, or that memory ran out

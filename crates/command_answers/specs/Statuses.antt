@@ -4,13 +4,13 @@ use Rattle.command_answers.specs.declared.command_fault.CommandFault.{CommandFau
 use Rattle.command_answers.specs.declared.command_fault.CommandFault.TheVariants.{Instance, Plan, Names, Read, Write, InputTooLong, Log, LogInUse, Memory}
 
 -- the status that the program ends with at a fault
-abbrev pub status_of : CommandFault → ℕ
-status_of (Instance fault) = 3
-status_of (Plan fault) = 3
-status_of (Names fault) = 3
-status_of Memory = 4
-status_of Read = 5
-status_of Write = 5
-status_of InputTooLong = 5
-status_of Log = 5
-status_of LogInUse = 5
+abbrev pub command_status_of : CommandFault → ℕ
+command_status_of (Instance fault) = 3
+command_status_of (Plan fault) = 3
+command_status_of (Names fault) = 3
+command_status_of Memory = 4
+command_status_of Read = 5
+command_status_of Write = 5
+command_status_of InputTooLong = 5
+command_status_of Log = 5
+command_status_of LogInUse = 5

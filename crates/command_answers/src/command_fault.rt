@@ -9,7 +9,7 @@ ghost use Rattle.command_answers.specs.ImprovingRests.{improve_command_fault};
 ghost use Rattle.command_answers.specs.LogLines.{audit_command_fault};
 ghost use Rattle.command_answers.specs.Moves.{moves_command_fault};
 ghost use Rattle.command_answers.specs.Revising.{unrevised_of, unwritten_fault};
-ghost use Rattle.command_answers.specs.Statuses.{status_of};
+ghost use Rattle.command_answers.specs.Statuses.{command_status_of};
 
 use cell_control::RestFault;
 use orlib_read::{NotWritten, OrFault};
@@ -188,7 +188,7 @@ impl From<RestFault> for Unanswered {
 impl CommandFault {
     /// The status that the program ends with at this fault.
     pub fn status(&self) -> u8
-        ensures { result ≡ status_of self.now }
+        ensures { result ≡ command_status_of self.now }
     {
         match self {
             CommandFault::Instance(_) | CommandFault::Plan(_) | CommandFault::Names(_) => 3,

@@ -2,7 +2,7 @@
 
 ghost use Rattle.std.specs.Prelude.{◌≡◌, ◌++◌, OnOk, codes};
 ghost use Rattle.people_names.specs.Words.{job_word};
-ghost use Rattle.command_answers.specs.DecisionLines.{bounds_line, excluded_words, fewer_if, job_words, least_line};
+ghost use Rattle.command_answers.specs.DecisionLines.{bounds_line, excluded_words, fewer_if, words_of_jobs, least_line};
 ghost use Rattle.command_answers.specs.DecisionLines.{never_line, never_lines, within_line};
 
 use crate::lines::push_fact;
@@ -62,7 +62,7 @@ fn push_excluded(text: &mut Vec<u8>, names: &Names, excluded: &Excluded) -> Resu
 
 /// Adds the words of the jobs, with a blank before each.
 fn push_jobs(text: &mut Vec<u8>, names: &Names, jobs: &[JobNo]) -> Result<(), AllocError>
-    ensures { OnOk result (text.new.items ≡ text.old.items ++ job_words names.now jobs.now) }
+    ensures { OnOk result (text.new.items ≡ text.old.items ++ words_of_jobs names.now jobs.now) }
 {
     for job in jobs {
         push_job(text, names, *job)?;

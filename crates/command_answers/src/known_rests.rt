@@ -4,7 +4,7 @@ ghost use Rattle.std.specs.Prelude.{◌≡◌, ◌<◌, ◌≤◌, ℕ, Option, 
 ghost use Rattle.std.specs.Option.{option_copied};
 ghost use Rattle.shop_base.specs.Plan.{jobs};
 ghost use Rattle.shop_base.specs.declared.limits.TheConstants.{MAX_MOMENT};
-ghost use Rattle.plan_explain.specs.Known.{IsJudged};
+ghost use Rattle.plan_explain.specs.Known.{IsKnownVerdict};
 ghost use Rattle.plan_verifier.specs.{Seen.judged, Seen.as_rest, Verdicts.IsReason, Verdicts.OnRefused};
 ghost use Rattle.command_answers.specs.KnownRests.{IsAtStart, IsInstead, IsFoundRest, IsKnownRest};
 ghost use Rattle.command_answers.specs.Steps.{IsOrMemory};
@@ -52,7 +52,7 @@ pub(crate) fn rest_of_run<T: Texts>(
     ensures asks { AsksOfRun T.gives IsInstead job (IsFoundRest run.now.at) run.now texts.old result texts.new }
     ensures job { IfOk result (λ found. IfOk found (λ s. IfSome job (λ j. j < jobs s.rest.plan))) }
     ensures judged { IfOk result
-        (λ found. IfOk found (λ s. IsJudged s.rest.plan s.rest.cell s.rest.present s.verdict)) }
+        (λ found. IfOk found (λ s. IsKnownVerdict s.rest.plan s.rest.cell s.rest.present s.verdict)) }
 {
     match shape_files(alloc, texts, &run.files.inputs)? {
         Ok(shaped) => shaped_rest(alloc, texts, shaped, run, job),
@@ -73,7 +73,7 @@ fn shaped_rest<T: Texts>(
         (λ book log. IsOrMemory (IsFoundRest run.now.at shaped book log))) texts.old result texts.new }
     ensures job { IfOk result (λ found. IfOk found (λ s. IfSome job (λ j. j < jobs s.rest.plan))) }
     ensures judged { IfOk result
-        (λ found. IfOk found (λ s. IsJudged s.rest.plan s.rest.cell s.rest.present s.verdict)) }
+        (λ found. IfOk found (λ s. IsKnownVerdict s.rest.plan s.rest.cell s.rest.present s.verdict)) }
 {
     if let Some(absent) = absent_job(&shaped, job) {
         drop(shaped);
@@ -99,7 +99,7 @@ fn logged_rest<T: Texts>(
         (λ book text. IsFoundRest at shaped book (Some text)) texts.old result texts.new }
     ensures plan { IfOk result (λ found. IfOk found (λ s. s.rest.plan ≡ shaped)) }
     ensures judged { IfOk result
-        (λ found. IfOk found (λ s. IsJudged s.rest.plan s.rest.cell s.rest.present s.verdict)) }
+        (λ found. IfOk found (λ s. IsKnownVerdict s.rest.plan s.rest.cell s.rest.present s.verdict)) }
 {
     match names_and_log(alloc, texts, &shaped, names, log) {
         Ok(read) => log_rest(alloc, shaped, read, at),
@@ -121,7 +121,7 @@ fn log_rest(
     ensures found { IsOrMemory (IsFoundRest at shaped read.names (Some read.log.items)) result }
     ensures plan { IfOk result (λ found. IfOk found (λ s. s.rest.plan ≡ shaped)) }
     ensures judged { IfOk result
-        (λ found. IfOk found (λ s. IsJudged s.rest.plan s.rest.cell s.rest.present s.verdict)) }
+        (λ found. IfOk found (λ s. IsKnownVerdict s.rest.plan s.rest.cell s.rest.present s.verdict)) }
 {
     let NamesAndLog { names, log } = read;
     match rest_at(alloc, shaped, &log, at)? {
@@ -150,7 +150,7 @@ fn whole_rest<T: Texts>(
         (λ book. IsOrMemory (IsFoundRest at shaped book None)) texts.old result texts.new }
     ensures plan { IfOk result (λ found. IfOk found (λ s. s.rest.plan ≡ shaped)) }
     ensures judged { IfOk result
-        (λ found. IfOk found (λ s. IsJudged s.rest.plan s.rest.cell s.rest.present s.verdict)) }
+        (λ found. IfOk found (λ s. IsKnownVerdict s.rest.plan s.rest.cell s.rest.present s.verdict)) }
 {
     match names_of(alloc, texts, names, &shaped) {
         Ok(names) => Ok(Ok(plan_rest(alloc, names, shaped)?)),
@@ -164,7 +164,7 @@ fn whole_rest<T: Texts>(
 /// Where a run of a plan is that hasn't begun.
 fn plan_rest(alloc: Global, names: Names, shaped: Shaped) -> Result<KnownRest, AllocError>
     ensures found { (at : Option ℕ) → IfOk result (IsKnownRest at shaped names None) }
-    ensures judged { IfOk result (λ s. IsJudged s.rest.plan s.rest.cell s.rest.present s.verdict) }
+    ensures judged { IfOk result (λ s. IsKnownVerdict s.rest.plan s.rest.cell s.rest.present s.verdict) }
 {
     match verify(alloc, shaped) {
         Ok(verdict) => verdict_rest(alloc, names, verdict),
@@ -186,7 +186,7 @@ pub(crate) fn verdict_rest(
     ensures named { IfOk result (λ s. s.names ≡ names) }
     ensures plan { IfOk result (λ s. s.rest.plan ≡ judged verdict) }
     ensures start { IfOk result (IsAtStart (judged verdict) (as_rest verdict)) }
-    ensures judged { IfOk result (λ s. IsJudged s.rest.plan s.rest.cell s.rest.present s.verdict) }
+    ensures judged { IfOk result (λ s. IsKnownVerdict s.rest.plan s.rest.cell s.rest.present s.verdict) }
 {
     let (shaped, verdict) = verdict.into_parts();
     match Rest::start(alloc, shaped) {

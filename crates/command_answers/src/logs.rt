@@ -2,7 +2,7 @@
 
 ghost use Rattle.std.specs.Prelude.{◌≡◌, IfOk};
 ghost use Rattle.std.specs.Option.{option_copied};
-ghost use Rattle.command_answers.specs.LogLines.{IsRunAnswer, IsLogLine, IsLogFaultAnswer, kept_line, end_words};
+ghost use Rattle.command_answers.specs.LogLines.{IsRunAnswer, IsLogLine, IsLogFaultAnswer, kept_line, run_end_words};
 ghost use Rattle.command_answers.specs.Steps.{IsOrMemory};
 ghost use Rattle.command_answers.specs.Commands.{RunsLog, WithNamesAndLog};
 
@@ -110,7 +110,7 @@ fn kept_answer(alloc: Global, run: &Audit) -> Result<Answer, AllocError>
 
 /// Whether the run has ended, in words.
 fn end_words(complete: bool) -> &'static str
-    ensures { result.now ≡ end_words complete }
+    ensures { result.now ≡ run_end_words complete }
 {
     if complete {
         " complete\n"

@@ -8,7 +8,7 @@ ghost use Rattle.command_answers.specs.declared.rests.PlanAnswer.TheVariants.{Ve
 ghost use Rattle.command_answers.specs.Rests.{AnswersRest};
 ghost use Rattle.command_answers.specs.Steps.{IsOrMemory};
 ghost use Rattle.command_answers.specs.Commands.{RunsMoves};
-ghost use Rattle.plan_explain.specs.Known.{IsJudged};
+ghost use Rattle.plan_explain.specs.Known.{IsKnownVerdict};
 
 use crate::answer::{Answer, Answered, Outcome};
 use crate::command_fault::Unanswered;
@@ -34,7 +34,7 @@ pub fn moves_answer<T: Texts>(alloc: Global, texts: &mut T, run: &RunFiles<'_>) 
 
 /// The moves of the rest of a run, or the line that stands instead.
 fn found_moves(alloc: Global, found: Result<KnownRest, Answer>) -> Answered
-    requires { IfOk found (λ s. IsJudged s.rest.plan s.rest.cell s.rest.present s.verdict) }
+    requires { IfOk found (λ s. IsKnownVerdict s.rest.plan s.rest.cell s.rest.present s.verdict) }
     ensures moves { IfOk found (λ s. IsOrMemory
         (IsMovesAnswer s.names s.rest.plan s.rest.cell s.rest.present) result) }
     ensures line { IfErr found (λ line. result ≡ Ok line) }

@@ -9,7 +9,7 @@ ghost use Rattle.run_picture.specs.Late.{late_leavings};
 ghost use Rattle.run_picture.specs.PictureText.{IsPicture};
 ghost use Rattle.run_gantt.specs.DrawnVisits.{drawn_visits};
 ghost use Rattle.run_gantt.specs.LeavingsSoFar.{leavings_so_far};
-ghost use Rattle.plan_explain.specs.Known.{IsJudged};
+ghost use Rattle.plan_explain.specs.Known.{IsKnownVerdict};
 ghost use Rattle.command_answers.specs.declared.pictures.Drawn.TheVariants.{Line};
 ghost use Rattle.command_answers.specs.Steps.{IsOrMemory};
 ghost use Rattle.command_answers.specs.Commands.{WithNamesAndLog};
@@ -156,7 +156,7 @@ pub fn schedule_picture<T: Texts>(
 
 /// Draws a run that goes on from where it is, or has the line that stands instead.
 fn found_drawn(alloc: Global, found: Result<KnownRest, Answer>) -> Outcome<Drawn>
-    requires { IfOk found (λ s. IsJudged s.rest.plan s.rest.cell s.rest.present s.verdict) }
+    requires { IfOk found (λ s. IsKnownVerdict s.rest.plan s.rest.cell s.rest.present s.verdict) }
     ensures drawn { IfOk found (λ s. IsOrMemory (IsVerdictDrawn s.names s.rest.plan s.rest.cell s.rest.present
         (line_at s.at s.entries.items s.rest.present) (drawn_visits s.rest.plan s.entries.items) s.verdict) result) }
     ensures line { IfErr found (λ line. result ≡ Ok (Line line)) }
@@ -169,7 +169,7 @@ fn found_drawn(alloc: Global, found: Result<KnownRest, Answer>) -> Outcome<Drawn
 
 /// Draws a run that goes on from where it is, by the verdict on its rest.
 fn known_drawn(alloc: Global, known: KnownRest) -> Result<Drawn, AllocError>
-    requires { let s = known in IsJudged s.rest.plan s.rest.cell s.rest.present s.verdict }
+    requires { let s = known in IsKnownVerdict s.rest.plan s.rest.cell s.rest.present s.verdict }
     ensures { let s = known in IfOk result (IsVerdictDrawn s.names s.rest.plan s.rest.cell s.rest.present
         (line_at s.at s.entries.items s.rest.present) (drawn_visits s.rest.plan s.entries.items) s.verdict) }
 {
@@ -205,7 +205,7 @@ fn verdict_drawn(
     visits: &[DrawnVisit],
     verdict: &Judged,
 ) -> Result<Drawn, AllocError>
-    requires { IsJudged rest.now.plan rest.now.cell rest.now.present verdict.now }
+    requires { IsKnownVerdict rest.now.plan rest.now.cell rest.now.present verdict.now }
     ensures { let r = rest.now in
         IfOk result (IsVerdictDrawn names r.plan r.cell r.present line visits.now verdict.now) }
 {

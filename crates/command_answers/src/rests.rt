@@ -7,7 +7,7 @@ ghost use Rattle.command_answers.specs.Rests.{AnswersRest, HasLine, IsAnswerBy, 
 ghost use Rattle.command_answers.specs.Rests.{IsTextOf, job_asked, rest_status};
 ghost use Rattle.command_answers.specs.Steps.{IsOrMemory};
 ghost use Rattle.command_answers.specs.Commands.{RunsRest};
-ghost use Rattle.plan_explain.specs.Known.{IsJudged};
+ghost use Rattle.plan_explain.specs.Known.{IsKnownVerdict};
 
 use crate::answer::{Answer, Answered, GOOD, REFUSED};
 use crate::inputs::RunFiles;
@@ -67,7 +67,7 @@ pub fn rest_answer<T: Texts>(
 /// What is answered of where a run is, or the line that stands instead.
 fn found_answer(alloc: Global, found: Result<KnownRest, Answer>, wanted: PlanAnswer) -> Answered
     requires job { IfOk found (λ s. IfSome (job_asked wanted) (λ j. j < jobs s.rest.plan)) }
-    requires judged { IfOk found (λ s. IsJudged s.rest.plan s.rest.cell s.rest.present s.verdict) }
+    requires judged { IfOk found (λ s. IsKnownVerdict s.rest.plan s.rest.cell s.rest.present s.verdict) }
     ensures answer { IfOk found (λ s. IsOrMemory
         (IsAnswerBy s.names wanted s.rest.plan s.rest.cell s.rest.present s.verdict) result) }
     ensures line { IfErr found (λ line. result ≡ Ok line) }
@@ -128,7 +128,7 @@ pub(crate) fn answer_judged<P: Planned>(
     wanted: PlanAnswer,
 ) -> Result<Answer, AllocError>
     requires job { IfSome (job_asked wanted) (λ j. j < jobs rest.now.plan) }
-    requires judged { IsJudged rest.now.plan rest.now.cell rest.now.present verdict.now }
+    requires judged { IsKnownVerdict rest.now.plan rest.now.cell rest.now.present verdict.now }
     ensures { let r = rest.now in
         IfOk result (IsAnswerBy names.now wanted r.plan r.cell r.present verdict.now) }
 {
@@ -146,7 +146,7 @@ fn verdict_text<P: Planned>(
     wanted: PlanAnswer,
 ) -> Result<Vec<u8>, AllocError>
     requires job { IfSome (job_asked wanted) (λ j. j < jobs rest.now.plan) }
-    requires judged { IsJudged rest.now.plan rest.now.cell rest.now.present verdict.now }
+    requires judged { IsKnownVerdict rest.now.plan rest.now.cell rest.now.present verdict.now }
     ensures { let r = rest.now in
         IfOk result (λ text. IsTextOf names.now wanted r.plan r.cell r.present verdict.now text.items) }
 {

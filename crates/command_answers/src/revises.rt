@@ -2,11 +2,11 @@
 
 ghost use Rattle.std.specs.Prelude.{◌≡◌, ◌≤◌, ◌++◌, [], IfOk, IfSome, OnOk, map, get_or};
 ghost use Rattle.shop_base.specs.declared.limits.TheConstants.{MAX_MOMENT};
-ghost use Rattle.plan_explain.specs.Known.{IsJudged};
+ghost use Rattle.plan_explain.specs.Known.{IsKnownVerdict};
 ghost use Rattle.command_answers.specs.Commands.{RunsRevise, WithLogOf};
-ghost use Rattle.command_answers.specs.Revising.{IsChanged, IsInstanceAnswer, IsPrinted, IsReviseAnswer, IsPlaced};
+ghost use Rattle.command_answers.specs.Revising.{IsChanged, IsInstanceAnswer, IsPrintedRevision, IsReviseAnswer, IsPlaced};
 ghost use Rattle.command_answers.specs.Revising.{IsRevisedRest, IsUnrevised, change_refused_line};
-ghost use Rattle.command_answers.specs.Revising.{flag_of, is_printable, printable_part};
+ghost use Rattle.command_answers.specs.Revising.{flag_of, is_visible, visible_part};
 ghost use Rattle.command_answers.specs.Steps.{Concludes, IsOrMemory, Then};
 ghost use Rattle.command_answers.specs.Texts.{Asks};
 
@@ -167,7 +167,7 @@ fn verdict_revised(
     description: &[u8],
     wanted: Revision<'_>,
 ) -> Answered
-    requires { IsJudged rest.now.plan rest.now.cell rest.now.present verdict.now }
+    requires { IsKnownVerdict rest.now.plan rest.now.cell rest.now.present verdict.now }
     ensures { IsRevisedRest wanted.entry.prints description.now wanted.entry.changes.now
         (map (λ value. value.now) wanted.entry.values.now) rest.now.plan rest.now.cell rest.now.present result }
 {
@@ -209,7 +209,7 @@ fn unrevised(alloc: Global, why: Unrevised, wanted: Revision<'_>) -> Answered
 
 /// What is printed of a shop and its plan.
 fn printed(alloc: Global, shaped: &Shaped, description: &[u8], prints: Revised) -> Answered
-    ensures { IsPrinted prints description.now shaped.now result }
+    ensures { IsPrintedRevision prints description.now shaped.now result }
 {
     match prints {
         Revised::PlanText => document_answer(alloc, shaped.plan(), GOOD),
@@ -286,7 +286,7 @@ fn flag_of(change: Change<'_>) -> &'static str
 
 /// Adds the bytes before the first that isn't printable.
 fn push_printable(text: &mut Vec<u8>, value: &[u8]) -> Result<(), AllocError>
-    ensures { OnOk result (text.new.items ≡ text.old.items ++ printable_part value.now) }
+    ensures { OnOk result (text.new.items ≡ text.old.items ++ visible_part value.now) }
 {
     for byte in value {
         if !is_printable(*byte) {
@@ -299,7 +299,7 @@ fn push_printable(text: &mut Vec<u8>, value: &[u8]) -> Result<(), AllocError>
 
 /// A blank, or any other printable character of ASCII.
 fn is_printable(byte: u8) -> bool
-    ensures { result ≡ is_printable byte }
+    ensures { result ≡ is_visible byte }
 {
     32 <= byte && byte <= 126
 }

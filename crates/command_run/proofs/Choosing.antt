@@ -9,7 +9,7 @@ use Rattle.command_answers.specs.declared.command_fault.CommandFault.{CommandFau
 use Rattle.command_answers.specs.declared.command_fault.CommandFault.TheVariants.{Log}
 use Rattle.command_run.specs.Streams.{Devices, Streams}
 use Rattle.command_run.specs.Logs.{IsHistoryOfLog, LogEnd, step_of}
-use Rattle.command_run.specs.Program.{IsHistoryOfChosen, IsHistoryOfWords, IsShown, NoLog, RunsChosen, RunsCommand, RunsLoggedDrive, kept_log_in, protocol_in, inputs_in, status_by}
+use Rattle.command_run.specs.Program.{IsHistoryOfChosen, IsHistoryOfWords, IsOutputLog, NoLog, RunsChosen, RunsCommand, RunsLoggedDrive, kept_log_in, protocol_in, inputs_in, status_by}
 
 module _ {W : Type 0} (gives : W → List ℕ → Result (List ℕ) CommandFault → W → Type 0) where
   pub unlogged : (chosen : Chosen) (before after : Devices W) (outcome : Result Answer CommandFault) (mid : Streams) → kept_log_in chosen ≡ None
@@ -36,8 +36,8 @@ module _ {W : Type 0} (gives : W → List ℕ → Result (List ℕ) CommandFault
   history_of_chosen words chosen before (Some t) choice is = is chosen choice
 
 -- where the output goes is the same of devices that are seen the same
-pub shown_as : {W : Type 0} (log : Option (List ℕ)) (shown : Bool) (one other : Devices W) → one ≡ other → IsShown log one.folder shown → IsShown log other.folder shown
-shown_as {W} log shown one other same is = subst (λ (d : Devices W). IsShown log d.folder shown) same is
+pub shown_as : {W : Type 0} (log : Option (List ℕ)) (shown : Bool) (one other : Devices W) → one ≡ other → IsOutputLog log one.folder shown → IsOutputLog log other.folder shown
+shown_as {W} log shown one other same is = subst (λ (d : Devices W). IsOutputLog log d.folder shown) same is
 
 -- where the output goes to the log that a command is given, its status is that of the fault, also where it keeps that log
 pub refused_status : (kept : Option (List ℕ)) (own : ℕ) → own ≡ status_by kept None (Err Log) own

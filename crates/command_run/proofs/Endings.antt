@@ -32,7 +32,7 @@ use Rattle.command_answers.specs.declared.command_fault.CommandFault.{CommandFau
 use Rattle.command_answers.specs.declared.command_fault.CommandFault.TheVariants.{Instance, Plan, Names, Read, Write, InputTooLong, Log, LogInUse, Memory}
 use Rattle.command_answers.specs.declared.loading.Loaded.{Loaded}
 use Rattle.command_answers.specs.declared.loading.Loaded.TheVariants.{NotShaped, Judged}
-use Rattle.command_answers.specs.Statuses.{status_of}
+use Rattle.command_answers.specs.Statuses.{command_status_of}
 use Rattle.command_answers.specs.Texts.{Asks}
 use Rattle.command_answers.specs.declared.pictures.Drawn.{Drawn}
 use Rattle.command_answers.specs.declared.pictures.Drawn.TheVariants.{Picture, Line as LineDrawn}
@@ -46,17 +46,17 @@ use Rattle.command_run.specs.declared.pictures.Timetable.TheVariants.{Moments, M
 use Rattle.command_run.specs.Drives.{Drives, IsDriveIn}
 use Rattle.command_run.specs.Resumes.{IsRecovery, ResumesRecovered, ResumesText, Resumes}
 use Rattle.command_run.specs.Hubs.{AreDrivesIn, DrivesAll}
-use Rattle.command_run.specs.Ending.{Ends, EndsBy, EndsAside, IsPrinted, IsFaultPrinted, IsPrintedAfter, IsOfText, IsLineOut, WasPrinted}
+use Rattle.command_run.specs.Ending.{Ends, EndsBy, EndsAside, IsPrinted, IsFaultPrinted, IsPrintedAfter, IsTextRefusal, IsLineOut, WasPrinted}
 use Rattle.command_run.specs.Logs.{LogEnd, is_driven, step_of}
-use Rattle.command_run.specs.Program.{AreWordsRead, RunsApart, RunsBy, RunsCommand, RunsChosen, Follows, starts_again, status_by, draws_in, file_at, form_in, kept_log_in, log_in, protocol_in, name_in, names_in, inputs_in, plans_in, run_in}
-use Rattle.command_run.specs.Laws.{IsOutcomeOfWords, IsFailureOf, PrintsFaultsAlone, HoldsNothing, WereDriven, WereRefused, IsUnanswered, Ran, RanCommand, WroteNoMore}
+use Rattle.command_run.specs.Program.{AreWordsRead, RunsApart, RunsBy, RunsCommand, RunsChosen, Follows, starts_again, status_by, draws_in, file_at, form_in, kept_log_in, log_in, protocol_in, name_in, names_file, inputs_in, plans_in, run_in}
+use Rattle.command_run.specs.Laws.{IsOutcomeOfWords, IsFailureOf, PrintsFaultsAlone, OutputHoldsNothing, WereDriven, WereRefused, IsUnanswered, Ran, RanCommand, WroteNoMore}
 use Rattle.command_run.proofs.LowStatuses.{IsLow, low}
 use Rattle.command_run.proofs.Keepers.{keeper}
 use Rattle.command_run.proofs.LoggedEndings.{logged_shown, logged_written, low_logged}
 
 -- ---- what is printed
 
-at_least_two : (fault : CommandFault) (status : ℕ) → status ≡ status_of fault → 2 ≤ status
+at_least_two : (fault : CommandFault) (status : ℕ) → status ≡ command_status_of fault → 2 ≤ status
 at_least_two (Instance fault) status own = omega (arith, own)
 at_least_two (Plan fault) status own = omega (arith, own)
 at_least_two (Names names) status own = omega (arith, own)
@@ -108,7 +108,7 @@ unprinted_ends : (answer : Answer) (fault : CommandFault) (output_before output_
     → IsPrinted answer output_before output_after (Err fault) → IsFaultPrinted fault before after status → IsFailurePrinted (Ok answer) output_after before after status
 unprinted_ends answer fault output_before output_after before after status is (inl out) =
     record { high = at_least_two fault status out.own; fault = fault; failed = (is.0, is.2); printed = out }
-unprinted_ends answer fault output_before output_after before after status is (inr (text, out)) = absurd (subst IsOfText is.0 text)
+unprinted_ends answer fault output_before output_after before after status is (inr (text, out)) = absurd (subst IsTextRefusal is.0 text)
 
 printed_ends : (answer : Answer) (printed : Result ℕ CommandFault) (output_before output_after : Output) (before after : Errors) (status : ℕ) → answer.status ≤ 1
     → IsPrinted answer output_before output_after printed → IsPrintedAfter printed before after status → EndsWell (Ok answer) output_after before after status
@@ -185,7 +185,7 @@ module _ {W : Type 0} (gives : W → List ℕ → Result (List ℕ) CommandFault
   schedule_drawn (Ok (Picture picture status)) later outcome came is =
       inr (inr (inr (inr (inl (refl, record { picture = picture; status = status; later = later; came = came; outcome = outcome; out = is.1 })))))
 
-  log_drawn : (drawn : Result Drawn CommandFault) (later : W) (outcome : Result Answer CommandFault) → DrawsLog gives (inputs_in chosen) (names_in chosen) (file_at chosen 2) texts drawn later
+  log_drawn : (drawn : Result Drawn CommandFault) (later : W) (outcome : Result Answer CommandFault) → DrawsLog gives (inputs_in chosen) (names_file chosen) (file_at chosen 2) texts drawn later
       → Draws drawn before after outcome → WereDriven gives Gantt chosen texts before after
   log_drawn (Err fault) later outcome came is = kept Gantt is.1
   log_drawn (Ok (LineDrawn answer)) later outcome came is = kept Gantt is.1
@@ -198,7 +198,7 @@ module _ {W : Type 0} (gives : W → List ℕ → Result (List ℕ) CommandFault
   timetable_written Moves later outcome run = kept Schedule run.1
   timetable_written DrawnForm later outcome run = schedule_drawn run.drawn later outcome run.came run.draws
 
-  drawing_written : (svg : Bool) (later : W) (outcome : Result Answer CommandFault) → RunsDrawing gives svg (inputs_in chosen) (names_in chosen) (file_at chosen 2) texts before outcome later after
+  drawing_written : (svg : Bool) (later : W) (outcome : Result Answer CommandFault) → RunsDrawing gives svg (inputs_in chosen) (names_file chosen) (file_at chosen 2) texts before outcome later after
       → WereDriven gives Gantt chosen texts before after
   drawing_written false later outcome run = kept Gantt run.1
   drawing_written true later outcome run = log_drawn run.drawn later outcome run.came run.draws
@@ -227,7 +227,7 @@ module _ {W : Type 0} (gives : W → List ℕ → Result (List ℕ) CommandFault
 -- ---- what is shown
 
 streamed_shown : {S T : Type 0} (answers : S → ℕ → Option (List ℕ) → List ℕ → S → Type 0) (closes : S → List ℕ → Type 0) (start last : S) (before after : Streams) (outcome : Result T DriveFault)
-    → IsStreamed outcome 65536 answers closes start last before after → HoldsNothing after.output
+    → IsStreamed outcome 65536 answers closes start last before after → OutputHoldsNothing after.output
 streamed_shown answers closes start last before after (Ok end) is = inl is.shown
 streamed_shown answers closes start last before after (Err NotRead) is = inl is.shown
 streamed_shown answers closes start last before after (Err NotWritten) is = inr is.comes_to.0
@@ -235,30 +235,30 @@ streamed_shown answers closes start last before after (Err TooLong) is = inl is.
 streamed_shown answers closes start last before after (Err OutOfMemory) is = absurd is.comes_to
 
 streamed_from_shown : {S T : Type 0} (answers : S → ℕ → Option (List ℕ) → List ℕ → S → Type 0) (closes : S → List ℕ → Type 0) (start last : S) (before after : Streams) (outcome : Result T DriveFault)
-    → IsStreamedFrom answers closes start outcome last before after → before.output.pending ≡ [] → HoldsNothing after.output
+    → IsStreamedFrom answers closes start outcome last before after → before.output.pending ≡ [] → OutputHoldsNothing after.output
 streamed_from_shown answers closes start last before after (Ok end) is none = streamed_shown answers closes start last before after (Ok end) is
 streamed_from_shown answers closes start last before after (Err NotRead) is none = streamed_shown answers closes start last before after (Err NotRead) is
 streamed_from_shown answers closes start last before after (Err NotWritten) is none = streamed_shown answers closes start last before after (Err NotWritten) is
 streamed_from_shown answers closes start last before after (Err TooLong) is none = streamed_shown answers closes start last before after (Err TooLong) is
 streamed_from_shown answers closes start last before after (Err OutOfMemory) is none = inl (ap (λ (s : Streams). s.output.pending) is ∙ none)
 
-resume_shown : (protocol : Protocol) (t : Recovered) (before after : Streams) (end : Result RestEnd DriveFault) → IsResumeIn protocol t before after end → before.output.pending ≡ [] → HoldsNothing after.output
+resume_shown : (protocol : Protocol) (t : Recovered) (before after : Streams) (end : Result RestEnd DriveFault) → IsResumeIn protocol t before after end → before.output.pending ≡ [] → OutputHoldsNothing after.output
 resume_shown protocol t before after end (inl cut) none = inr cut.1
 resume_shown protocol t before after end (inr on) none =
     streamed_shown SessionAnswer SessionCloses (session_from protocol t) on.end (record { input = before.input; output = on.middle }) after end on.streamed
 
-drive_shown : (protocol : Protocol) (v : VerifiedPlan) (before after : Streams) (end : Result DriveEnd DriveFault) → IsDriveIn protocol v before after end → before.output.pending ≡ [] → HoldsNothing after.output
+drive_shown : (protocol : Protocol) (v : VerifiedPlan) (before after : Streams) (end : Result DriveEnd DriveFault) → IsDriveIn protocol v before after end → before.output.pending ≡ [] → OutputHoldsNothing after.output
 drive_shown protocol v before after end is none = streamed_from_shown SessionAnswer SessionCloses (session_start protocol v) is.end before after end is.streamed none
 
-hub_shown : (protocol : Protocol) (cells : List VerifiedPlan) (before after : Streams) (end : Result HubEnd DriveFault) → AreDrivesIn protocol cells before after end → before.output.pending ≡ [] → HoldsNothing after.output
+hub_shown : (protocol : Protocol) (cells : List VerifiedPlan) (before after : Streams) (end : Result HubEnd DriveFault) → AreDrivesIn protocol cells before after end → before.output.pending ≡ [] → OutputHoldsNothing after.output
 hub_shown protocol cells before after end is none = streamed_from_shown HubAnswer HubCloses (hub_of_plans protocol cells) is.end before after end is.streamed none
 
-picture_shown : (picture : List ℕ) (status : ℕ) (before after : Output) (outcome : Result Answer CommandFault) → IsPictureOut picture status before after outcome → HoldsNothing after
+picture_shown : (picture : List ℕ) (status : ℕ) (before after : Output) (outcome : Result Answer CommandFault) → IsPictureOut picture status before after outcome → OutputHoldsNothing after
 picture_shown picture status before after (Ok answer) out = inl out.4
 picture_shown picture status before after (Err fault) out = inr out.2
 
 driven_shown : {W : Type 0} (gives : W → List ℕ → Result (List ℕ) CommandFault → W → Type 0) (chosen : Chosen) (texts : W) (before after : Streams) (name : CommandName)
-    → WereDriven gives name chosen texts before after → before.output.pending ≡ [] → HoldsNothing after.output
+    → WereDriven gives name chosen texts before after → before.output.pending ≡ [] → OutputHoldsNothing after.output
 driven_shown gives chosen texts before after name (inl same) none = inl (ap (λ (o : Output). o.pending) same ∙ none)
 driven_shown gives chosen texts before after name (inr (inl (is, inr drove))) none = logged_shown gives (protocol_in chosen) (inputs_in chosen) texts before after drove none
 driven_shown gives chosen texts before after name (inr (inl (is, inl drove))) none =
@@ -269,20 +269,20 @@ driven_shown gives chosen texts before after name (inr (inr (inr (inl (is, drove
 driven_shown gives chosen texts before after name (inr (inr (inr (inr (inl (is, drew)))))) none = picture_shown drew.picture drew.status before.output after.output drew.outcome drew.out
 driven_shown gives chosen texts before after name (inr (inr (inr (inr (inr (is, drew)))))) none = picture_shown drew.picture drew.status before.output after.output drew.outcome drew.out
 
-printed_shown : (answer : Answer) (printed : Result ℕ CommandFault) (before after : Output) → IsPrinted answer before after printed → HoldsNothing after
+printed_shown : (answer : Answer) (printed : Result ℕ CommandFault) (before after : Output) → IsPrinted answer before after printed → OutputHoldsNothing after
 printed_shown answer (Ok status) before after is = inl is.3
 printed_shown answer (Err fault) before after is = inr is.2
 
-ended_shown : (outcome : Result Answer CommandFault) (before after : Output) (printed_before printed_after : Errors) (status : ℕ) → HoldsNothing before
-    → Ends outcome before after printed_before printed_after status → HoldsNothing after
+ended_shown : (outcome : Result Answer CommandFault) (before after : Output) (printed_before printed_after : Errors) (status : ℕ) → OutputHoldsNothing before
+    → Ends outcome before after printed_before printed_after status → OutputHoldsNothing after
 ended_shown (Ok answer) before after printed_before printed_after status shown ends = printed_shown answer ends.printed before after ends.is
-ended_shown (Err fault) before after printed_before printed_after status shown ends = subst HoldsNothing (sym ends.0) shown
+ended_shown (Err fault) before after printed_before printed_after status shown ends = subst OutputHoldsNothing (sym ends.0) shown
 
-aside_shown : (drawing : Bool) (outcome : Result Answer CommandFault) (before after : Output) (printed_before printed_after : Errors) (status : ℕ) → HoldsNothing before
-    → EndsBy drawing outcome before after printed_before printed_after status → HoldsNothing after
+aside_shown : (drawing : Bool) (outcome : Result Answer CommandFault) (before after : Output) (printed_before printed_after : Errors) (status : ℕ) → OutputHoldsNothing before
+    → EndsBy drawing outcome before after printed_before printed_after status → OutputHoldsNothing after
 aside_shown false outcome before after printed_before printed_after status shown ends = ended_shown outcome before after printed_before printed_after status shown ends
-aside_shown true (Ok answer) before after printed_before printed_after status shown ends = subst HoldsNothing (sym ends.0) shown
-aside_shown true (Err fault) before after printed_before printed_after status shown ends = subst HoldsNothing (sym ends.0) shown
+aside_shown true (Ok answer) before after printed_before printed_after status shown ends = subst OutputHoldsNothing (sym ends.0) shown
+aside_shown true (Err fault) before after printed_before printed_after status shown ends = subst OutputHoldsNothing (sym ends.0) shown
 
 -- ---- what isn't answered
 
@@ -383,7 +383,7 @@ module _ {W : Type 0} (gives : W → List ℕ → Result (List ℕ) CommandFault
       ends_printed (Err Memory) before.streams status (inl refl) (chose_none NoWordsMemory are.refused (Err Memory) refl)
       (outcome_ends (Err Memory) before.streams.output after.streams.output before.errors after.errors status tt is.0)
 
-  pub follows_shown : (read : Result Chosen WordsFault) → before.streams.output.pending ≡ [] → Follows gives read before status after end → HoldsNothing after.streams.output
+  pub follows_shown : (read : Result Chosen WordsFault) → before.streams.output.pending ≡ [] → Follows gives read before status after end → OutputHoldsNothing after.streams.output
   follows_shown (Ok chosen) none is =
       aside_shown (draws_in chosen) is.outcome is.mid.output after.streams.output before.errors after.errors is.own
       (driven_shown gives chosen before.texts before.streams is.mid chosen.name (chosen_written gives chosen before after is.outcome is.mid end is.runs) none) is.ends

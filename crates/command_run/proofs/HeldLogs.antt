@@ -20,7 +20,7 @@ use Rattle.run_journal.specs.declared.file_fault.FileFault.TheVariants.{Log}
 use Rattle.run_journal.specs.Folders.{Folder, NamedLog, IsOpenFault, handed, with_fault, with_log}
 use Rattle.run_journal.specs.LogFiles.{IsReadFault, Leaves}
 use Rattle.run_journal.specs.Logged.{Held, StayInStep}
-use Rattle.run_journal.specs.Openings.{IsFound, IsOfLog, IsUnmade, IsUnnamed}
+use Rattle.run_journal.specs.Openings.{IsLogFound, IsOfLog, IsUnmade, IsUnnamed}
 use Rattle.run_journal.specs.WholeLines.{whole_lines}
 use Rattle.run_journal.proofs.NamedLogs.{logs_before, plan_parses, whole_plan}
 use Rattle.run_journal.proofs.Fronts.{if_some-at, if_some-map}
@@ -140,7 +140,7 @@ module _ {D : Type 0} (seen : D → Option (List ℕ)) (crash_states : D → Lis
     pub held : IsHeldAfter seen crash_states fault written known printed good log end
 
   pub unopened_held : (path : List ℕ) (log : Option D) → MatchOption log (IsOpenFault why × (after ≡ with_fault why folder)) (λ l. IsOfLog (fault l) why × (after ≡ handed folder))
-      → IfSome log (λ l. IsFound folder path (seen l) (written l)) → UnopenedHeld log
+      → IfSome log (λ l. IsLogFound folder path (seen l) (written l)) → UnopenedHeld log
   unopened_held path None is found = record { end = None; driven = refl; why_is = inl (is.0, is.1, refl); held = tt }
   unopened_held path (Some log) is found = record { end = Some (Unread why); driven = refl; why_is = inr (is.0.0, is.1, refl); held = (is.0.1, found.unwritten, unread known) }
     where

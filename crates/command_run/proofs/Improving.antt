@@ -9,11 +9,11 @@ use Rattle.plan_improve.specs.Watching.{Progress as LogAnswer}
 use Rattle.command_answers.specs.declared.answer.Answer.{Answer}
 use Rattle.command_answers.specs.declared.command_fault.CommandFault.{CommandFault}
 use Rattle.command_answers.specs.declared.command_fault.CommandFault.TheVariants.{Instance, Plan, Names, Read, Write, InputTooLong, Log, LogInUse, Memory}
-use Rattle.command_answers.specs.Improving.{IsBest, IsBestAnswer, SearchBy}
+use Rattle.command_answers.specs.Improving.{IsBestMet, IsBestAnswer, SearchBy}
 use Rattle.command_run.specs.Improvers.{MayImprove}
 
 module _ (made more : SearchBy) (rounds : ℕ) (less : (s : Setting) (p q : PlannedShop) → made s p q → more s p q) where
-  best_more : (start best : PlannedShop) → IsBest made start best → IsBest more start best
+  best_more : (start best : PlannedShop) → IsBestMet made start best → IsBestMet more start best
   best_more start best is = record {
     same = is.same;
     acyclic = is.acyclic;

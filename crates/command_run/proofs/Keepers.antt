@@ -1,6 +1,6 @@
 -- Which commands keep a log of their own.
 use Rattle.std.proofs.Common.{◌≡◌, ◌<◌, ℕ, List, Option, Some, length, option_map, string_bytes, Result, subst, sym, arith, refl}
-use Rattle.command_words.specs.Choice.{IsWithin, TakesFiles}
+use Rattle.command_words.specs.Choice.{IsChoiceWithin, TakesFiles}
 use Rattle.command_words.specs.declared.words.Chosen.{Chosen}
 use Rattle.command_words.specs.declared.words.CommandName.{CommandName}
 use Rattle.command_words.specs.declared.words.CommandName.TheVariants.{Input as NoWords, Facts, Shape, Check, Explain, Schedule, Bounds, Margin, Plan as Search, Improve, Decide, Revise, Drive, Resume, Hub, Digest, Audit, Gantt}
@@ -32,7 +32,7 @@ keeper Audit log path is = absurd (cc is)
 keeper Gantt log path is = absurd (cc is)
 
 -- which has an instance and a plan
-pub keepers_files : (chosen : Chosen) (path : List ℕ) → IsWithin chosen → kept_log_in chosen ≡ Some path → 1 < length chosen.files.items
+pub keepers_files : (chosen : Chosen) (path : List ℕ) → IsChoiceWithin chosen → kept_log_in chosen ≡ Some path → 1 < length chosen.files.items
 keepers_files chosen path within keeps =
     let two : length chosen.files.items ≡ 2 =
     subst (λ (name : CommandName). TakesFiles name (length chosen.files.items)) (keeper chosen.name (option_map string_bytes chosen.log) path keeps) within.files in

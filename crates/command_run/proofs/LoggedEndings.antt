@@ -25,7 +25,7 @@ use Rattle.command_words.specs.declared.words.log_start.LogStart.{LogStart}
 use Rattle.command_run.specs.declared.misfits.Misfit.{Misfit}
 use Rattle.command_run.specs.Misfits.{IsMisfitLine}
 use Rattle.command_run.specs.Logs.{Begins, BeginsBy, DrivesAs, DrivesFitting, DrivesNothing, DrivesOpened, DrivesShaped, GoesOnAfter, ContinuesRecovered, IsLoggedAnswer, IsLogFaultPrinted, IsVerdict, LogEnd, Driven, NotRecovered, Left, Found, Unread, Unlined, Step, RecoversLog, ReplaysEvents, left_if, step_of}
-use Rattle.command_run.specs.Laws.{DroveWithLog, HoldsNothing}
+use Rattle.command_run.specs.Laws.{DroveWithLog, OutputHoldsNothing}
 use Rattle.command_run.proofs.LowStatuses.{IsLow, low_end, low_line_of, low_log_fault, low_or, low_unrecovered}
 
 -- ---- the answer is a good one, or one that refuses
@@ -130,20 +130,20 @@ module _ {W : Type 0} (gives : W → List ℕ → Result (List ℕ) CommandFault
 
 -- ---- what is shown
 
-plan_answer_shown : (protocol : Protocol) (t : Recovered) (before mid : Output) (fault : DriveFault) → ReplaysEvents protocol t before mid (Err fault) → HoldsNothing mid
+plan_answer_shown : (protocol : Protocol) (t : Recovered) (before mid : Output) (fault : DriveFault) → ReplaysEvents protocol t before mid (Err fault) → OutputHoldsNothing mid
 plan_answer_shown protocol t before mid NotWritten parses = inr parses.is.0
 plan_answer_shown protocol t before mid OutOfMemory parses = absurd parses.is
 plan_answer_shown protocol t before mid NotRead parses = absurd parses.is
 plan_answer_shown protocol t before mid TooLong parses = absurd parses.is
 
 gone_on_shown : (protocol : Protocol) (t : Recovered) (mid : Output) (replay : Result Recovered DriveFault) (step : Step) → ReplaysEvents protocol t step.before.output mid replay → GoesOnAfter protocol t mid replay step
-    → HoldsNothing step.after.output
+    → OutputHoldsNothing step.after.output
 gone_on_shown protocol t mid (Ok done) step parses run = run.shows.shown
 gone_on_shown protocol t mid (Err fault) step parses is =
-    subst (λ (s : Streams). HoldsNothing s.output) (sym is.1) (plan_answer_shown protocol t step.before.output mid fault parses)
+    subst (λ (s : Streams). OutputHoldsNothing s.output) (sym is.1) (plan_answer_shown protocol t step.before.output mid fault parses)
 
 pub logged_shown : {W : Type 0} (gives : W → List ℕ → Result (List ℕ) CommandFault → W → Type 0) (protocol : Protocol) (inputs : InputPaths) (texts : W) (before after : Streams)
-    (drove : DroveWithLog gives protocol inputs texts before after) → before.output.pending ≡ [] → HoldsNothing after.output
+    (drove : DroveWithLog gives protocol inputs texts before after) → before.output.pending ≡ [] → OutputHoldsNothing after.output
 logged_shown gives protocol inputs texts before after drove none = elim drove.is [
   | inl (v, same, run) ↦ run.shows.shown
   | inr (t, same, on) ↦ gone_on_shown protocol t on.mid on.replay (step_of before drove.outcome after drove.log) on.replays on.goes_on

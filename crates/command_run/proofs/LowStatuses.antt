@@ -27,7 +27,7 @@ use Rattle.command_words.specs.declared.words.changes.AskedChange.{AskedChange}
 use Rattle.command_answers.specs.declared.revises.Revised.{Revised}
 use Rattle.command_answers.specs.declared.revises.Revised.TheVariants.{PlanText, InstanceText}
 use Rattle.command_answers.specs.Documents.{IsDocumentAnswer}
-use Rattle.command_answers.specs.Revising.{IsInstanceAnswer, IsPrinted, IsReviseAnswer, IsRevisedRest}
+use Rattle.command_answers.specs.Revising.{IsInstanceAnswer, IsPrintedRevision, IsReviseAnswer, IsRevisedRest}
 use Rattle.command_run.specs.Revisions.{Revises, printed_for, values_asked}
 use Rattle.byte_streams.specs.declared.drive_fault.DriveFault.{DriveFault}
 use Rattle.cell_drive.specs.declared.protocol.Protocol.{Protocol}
@@ -89,7 +89,7 @@ use Rattle.command_run.specs.Planners.{search_by_two, SeeksPlan}
 use Rattle.text_lines.specs.Lines.{ended_lines}
 use Rattle.command_answers.specs.ImprovingRests.{IsBetterAnswer, IsRestAnswer}
 use Rattle.command_run.specs.Improvers.{AsksOne, Improves}
-use Rattle.command_run.specs.Program.{RunsCommand, aim_in, file_at, form_in, log_in, names_in, protocol_in, name_in, inputs_in, plans_in, run_in}
+use Rattle.command_run.specs.Program.{RunsCommand, aim_in, file_at, form_in, log_in, names_file, protocol_in, name_in, inputs_in, plans_in, run_in}
 
 -- the answer's status is 0 or 1
 abbrev pub IsLow : Result Answer CommandFault → Type 0
@@ -228,7 +228,7 @@ low_document : (plan : ShopPlan) (outcome : Result Answer CommandFault) → IsDo
 low_document plan (Ok answer) text = zero_low answer.status text.ends
 low_document plan (Err fault) is = tt
 
-low_printed : (prints : Revised) (description : List ℕ) (q : PlannedShop) (outcome : Result Answer CommandFault) → IsPrinted prints description q outcome → IsLow outcome
+low_printed : (prints : Revised) (description : List ℕ) (q : PlannedShop) (outcome : Result Answer CommandFault) → IsPrintedRevision prints description q outcome → IsLow outcome
 low_printed PlanText description q outcome is = low_document q.plan outcome is
 low_printed InstanceText description q outcome is = low_instance description q.shop outcome is
 
@@ -554,10 +554,10 @@ module _ {W : Type 0} (gives : W → List ℕ → Result (List ℕ) CommandFault
   low Explain chosen texts before outcome texts_after after run = low_asked_rest (Reasons chosen.job) (run_in chosen) texts outcome texts_after run.0
   low Schedule chosen texts before outcome texts_after after run = low_timetable (form_in chosen) (run_in chosen) texts before outcome texts_after after run
   low Bounds chosen texts before outcome texts_after after run =
-      low_both (inputs_in chosen) (λ p. WithSoundNames gives (λ book. IsOrMemory (AreBoundLines book (times_of p) p.plan.budget)) (names_in chosen) p) texts outcome texts_after
-      (λ p mid on. low_sound (λ book. IsOrMemory (AreBoundLines book (times_of p) p.plan.budget)) (names_in chosen) p mid outcome texts_after
+      low_both (inputs_in chosen) (λ p. WithSoundNames gives (λ book. IsOrMemory (AreBoundLines book (times_of p) p.plan.budget)) (names_file chosen) p) texts outcome texts_after
+      (λ p mid on. low_sound (λ book. IsOrMemory (AreBoundLines book (times_of p) p.plan.budget)) (names_file chosen) p mid outcome texts_after
       (λ book is. low_or (AreBoundLines book (times_of p) p.plan.budget) outcome (low_bounds book (times_of p) p.plan.budget) is) on) run.0
-  low Margin chosen texts before outcome texts_after after run = low_named IsMarginAnswer low_margin (inputs_in chosen) (names_in chosen) texts outcome texts_after run.0
+  low Margin chosen texts before outcome texts_after after run = low_named IsMarginAnswer low_margin (inputs_in chosen) (names_file chosen) texts outcome texts_after run.0
   low Plan chosen texts before outcome texts_after after run = low_seeks chosen.rounds _ texts outcome texts_after run.0
   low Decide chosen texts before outcome texts_after after run =
       low_both (inputs_in chosen) (λ p. IfFit gives (log_in chosen) p (DecidesPlan gives (aim_in chosen) (run_in chosen))) texts outcome texts_after
@@ -573,4 +573,4 @@ module _ {W : Type 0} (gives : W → List ℕ → Result (List ℕ) CommandFault
       low_both (inputs_in chosen) (λ p. Concludes (IsOrMemory (IsDigestAnswer p))) texts outcome texts_after (λ p mid on. low_or (IsDigestAnswer p) outcome (low_digest p) on.0) run.0
   low Audit chosen texts before outcome texts_after after run =
       low_logged Numbers (inputs_in chosen) None (file_at chosen 2) texts outcome texts_after run.0
-  low Gantt chosen texts before outcome texts_after after run = low_drawing chosen.svg (inputs_in chosen) (names_in chosen) (file_at chosen 2) texts before outcome texts_after after run
+  low Gantt chosen texts before outcome texts_after after run = low_drawing chosen.svg (inputs_in chosen) (names_file chosen) (file_at chosen 2) texts before outcome texts_after after run

@@ -12,7 +12,7 @@ use Rattle.plan_seek.specs.Search.{IsSought, IsSeekFault}
 use Rattle.command_answers.specs.declared.answer.Answer.{Answer}
 use Rattle.command_answers.specs.declared.command_fault.CommandFault.{CommandFault}
 use Rattle.command_answers.specs.declared.command_fault.CommandFault.TheVariants.{Instance, Plan, Names, Read, Write, InputTooLong, Log, LogInUse, Memory}
-use Rattle.command_answers.specs.Search.{IsFound, IsSearchLine, IsSearchAnswer}
+use Rattle.command_answers.specs.Search.{IsFoundPlan, IsSearchLine, IsSearchAnswer}
 use Rattle.command_answers.specs.Steps.{Then, AndThen, Concludes}
 use Rattle.command_answers.specs.Commands.{InputPaths, ReadsBoth, RunsPlan}
 use Rattle.command_run.specs.Planners.{MayPlanAt, search_by_two}
@@ -37,7 +37,7 @@ module _ (t : PlanTask) (proposers : ℕ) (may wide : Proposals) (within : (turn
   })
   sought_more order (inr serial) = inr (each_more serial.0, serial.1)
 
-  found_more : (plan : ShopPlan) → IsFound (search may) rounds plan → IsFound (search wide) rounds plan
+  found_more : (plan : ShopPlan) → IsFoundPlan (search may) rounds plan → IsFoundPlan (search wide) rounds plan
   found_more plan found = record { same = found.same; accepted = found.accepted; sought = sought_more plan.order found.sought }
 
   fault_more : (fault : SeekFault) → IsSeekFault (search may) rounds fault → IsSeekFault (search wide) rounds fault

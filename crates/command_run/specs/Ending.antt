@@ -5,7 +5,7 @@ use Rattle.byte_streams.specs.Sinks.{TookPart}
 use Rattle.command_answers.specs.declared.answer.Answer.{Answer}
 use Rattle.command_answers.specs.declared.command_fault.CommandFault.{CommandFault}
 use Rattle.command_answers.specs.declared.command_fault.CommandFault.TheVariants.{Instance, Plan, Names, Read, Write, InputTooLong, Log, LogInUse, Memory}
-use Rattle.command_answers.specs.Statuses.{status_of}
+use Rattle.command_answers.specs.Statuses.{command_status_of}
 use Rattle.command_run.specs.Streams.{Output, Errors}
 
 -- a line was printed whole; or its first bytes were, and a write of the error output has failed
@@ -30,11 +30,11 @@ IsErrorLine LogInUse line = line ≡ codes "cellplan: log in use\n"
 IsErrorLine Memory line = line ≡ codes "cellplan: out of memory\n"
 
 -- a text is refused, whose words take memory
-abbrev pub IsOfText : CommandFault → Type 0
-IsOfText (Instance fault) = Unit {0}
-IsOfText (Plan fault) = Unit {0}
-IsOfText (Names fault) = Unit {0}
-IsOfText other = ⊥
+abbrev pub IsTextRefusal : CommandFault → Type 0
+IsTextRefusal (Instance fault) = Unit {0}
+IsTextRefusal (Plan fault) = Unit {0}
+IsTextRefusal (Names fault) = Unit {0}
+IsTextRefusal other = ⊥
 
 -- the line of a refused text; of another fault anything
 abbrev pub IsTextLine : CommandFault → List ℕ → Type 0
@@ -48,11 +48,11 @@ pub record IsLineOut (fault : CommandFault) (before after : Errors) (status : �
   pub line : List ℕ
   pub is : IsErrorLine fault line
   pub printed : WasPrinted line before after
-  pub own : status ≡ status_of fault
+  pub own : status ≡ command_status_of fault
 
 -- the fault was printed; or out of memory in its place, where its words take memory
 abbrev pub IsFaultPrinted : CommandFault → Errors → Errors → ℕ → Type 0
-IsFaultPrinted fault before after status = IsLineOut fault before after status ⊎ (IsOfText fault × IsLineOut Memory before after status)
+IsFaultPrinted fault before after status = IsLineOut fault before after status ⊎ (IsTextRefusal fault × IsLineOut Memory before after status)
 
 -- the answer was printed and shown, or its first bytes up to a write that failed
 abbrev pub IsPrinted : Answer → Output → Output → Result ℕ CommandFault → Type 0

@@ -24,7 +24,7 @@ use Rattle.cell_drive.specs.declared.resume.RestEnd.{RestEnd}
 use Rattle.cell_drive.specs.declared.hub.HubEnd.{HubEnd}
 use Rattle.byte_streams.specs.declared.drive_fault.DriveFault.{DriveFault}
 use Rattle.command_words.specs.declared.words.CommandName.TheVariants.{Schedule, Drive, Resume, Hub, Gantt}
-use Rattle.command_words.specs.Choice.{word_of, word_found, rows_found, files_in, instance_in, kept_in, reasons_in, found_in, IsChoiceOf, NamesOneOf}
+use Rattle.command_words.specs.Choice.{command_word_of, word_found, rows_found, files_in, instance_in, kept_in, reasons_in, found_in, IsChoiceOf, NamesOneOf}
 use Rattle.command_words.specs.declared.words.Chosen.{Chosen}
 use Rattle.command_words.specs.declared.words.CommandName.{CommandName}
 use Rattle.command_words.specs.declared.words.WordsFault.{WordsFault}
@@ -66,8 +66,8 @@ use Rattle.command_run.specs.Drives.{IsDriveIn, DrivesCell, end_of_drive}
 use Rattle.command_run.specs.Logs.{DrivesWithLog, GoesOnWithLog, LogEnd, step_of}
 use Rattle.command_run.specs.Resumes.{ResumesText, IsRecovery}
 use Rattle.command_run.specs.Hubs.{AreDrivesIn, DrivesCells}
-use Rattle.command_run.specs.Ending.{WasPrinted, IsLineOut, IsOfText}
-use Rattle.command_run.specs.Program.{RunsApart, RunsDrive, RunsResume, RunsHub, RunsProgram, draws_in, file_at, log_in, protocol_in, name_in, names_in, inputs_in, plans_in, run_in}
+use Rattle.command_run.specs.Ending.{WasPrinted, IsLineOut, IsTextRefusal}
+use Rattle.command_run.specs.Program.{RunsApart, RunsDrive, RunsResume, RunsHub, RunsProgram, draws_in, file_at, log_in, protocol_in, name_in, names_file, inputs_in, plans_in, run_in}
 
 -- ---- what is printed first where the files don't change
 
@@ -163,33 +163,33 @@ pub record ParseAsPlan (content : List ℕ → Result (List ℕ) CommandFault) (
   pub parsed : BothParse instance inputs.name plan p
 
 -- an answer is one of these, for which these files were asked for, in this order; none is given only where memory ran out
-abbrev pub IsAnswered : {A : Type 0} → (A → Type 0) → List (List ℕ) → Result A CommandFault → List (List ℕ) → Type 0
-IsAnswered Is files (Ok answer) asked = Is answer × (asked ≡ files)
-IsAnswered Is files (Err fault) asked = fault ≡ Memory
+abbrev pub IsAnswerOfFiles : {A : Type 0} → (A → Type 0) → List (List ℕ) → Result A CommandFault → List (List ℕ) → Type 0
+IsAnswerOfFiles Is files (Ok answer) asked = Is answer × (asked ≡ files)
+IsAnswerOfFiles Is files (Err fault) asked = fault ≡ Memory
 
 -- files that give a shop and a plan are answered by a line of this kind, when this runs
-abbrev pub AnswersPlan : ((List (List ℕ) → List ℕ → Result (List ℕ) CommandFault → List (List ℕ) → Type 0) → InputPaths
+abbrev pub AnswersPlanFiles : ((List (List ℕ) → List ℕ → Result (List ℕ) CommandFault → List (List ℕ) → Type 0) → InputPaths
     → List (List ℕ) → Result Answer CommandFault → List (List ℕ) → Type 0) → (PlannedShop → Answer → Type 0) → Type 0
-AnswersPlan runs Is = (content : List ℕ → Result (List ℕ) CommandFault) (inputs : InputPaths) (p : PlannedShop) (outcome : Result Answer CommandFault) (asked : List (List ℕ))
-    → ParseAsPlan content inputs p → runs (Shelf content) inputs [] outcome asked → IsAnswered (Is p) (inputs.path ∷ inputs.plan ∷ []) outcome asked
+AnswersPlanFiles runs Is = (content : List ℕ → Result (List ℕ) CommandFault) (inputs : InputPaths) (p : PlannedShop) (outcome : Result Answer CommandFault) (asked : List (List ℕ))
+    → ParseAsPlan content inputs p → runs (Shelf content) inputs [] outcome asked → IsAnswerOfFiles (Is p) (inputs.path ∷ inputs.plan ∷ []) outcome asked
 
 -- `facts`: the line of the facts of the shop that the file gives
 abbrev pub FactsAnswerShop : Type 0
 FactsAnswerShop = (content : List ℕ → Result (List ℕ) CommandFault) (path text description : List ℕ) (name : Option (List ℕ)) (shop : JobShop) (outcome : Result Answer CommandFault) (asked : List (List ℕ))
-    → content path ≡ Ok text → ParsesAs text name description shop → RunsFacts (Shelf content) path name [] outcome asked → IsAnswered (λ answer. AreFacts answer shop) (path ∷ []) outcome asked
+    → content path ≡ Ok text → ParsesAs text name description shop → RunsFacts (Shelf content) path name [] outcome asked → IsAnswerOfFiles (λ answer. AreFacts answer shop) (path ∷ []) outcome asked
 
 abbrev pub ShapeAnswersPlan : Type 0
-ShapeAnswersPlan = AnswersPlan (λ gives inputs. RunsShape gives inputs) IsShapeLine
+ShapeAnswersPlan = AnswersPlanFiles (λ gives inputs. RunsShape gives inputs) IsShapeLine
 
 abbrev pub DigestAnswersPlan : Type 0
-DigestAnswersPlan = AnswersPlan (λ gives inputs. RunsDigest gives inputs) IsDigestAnswer
+DigestAnswersPlan = AnswersPlanFiles (λ gives inputs. RunsDigest gives inputs) IsDigestAnswer
 
 -- without names
 abbrev pub BoundsAnswerPlan : Type 0
-BoundsAnswerPlan = AnswersPlan (λ gives inputs. RunsBounds gives inputs None) AreBounds
+BoundsAnswerPlan = AnswersPlanFiles (λ gives inputs. RunsBounds gives inputs None) AreBounds
 
 abbrev pub MarginAnswersPlan : Type 0
-MarginAnswersPlan = AnswersPlan (λ gives inputs. RunsMargin gives inputs None) (λ p answer. IsNotShapedLine p answer ⊎ IsMarginAnswer no_names p answer)
+MarginAnswersPlan = AnswersPlanFiles (λ gives inputs. RunsMargin gives inputs None) (λ p answer. IsNotShapedLine p answer ⊎ IsMarginAnswer no_names p answer)
 
 -- the paths of the files of a run without names: those of its plan, and of its log, if it has begun
 abbrev pub log_paths : Option (List ℕ) → List (List ℕ)
@@ -213,7 +213,7 @@ ByShape p run Shaped Unshaped = (IsWellShaped p × Shaped (run.inputs.path ∷ r
 
 -- one of these is answered, or the line of the plan's first fault; no answer is given only where memory ran out
 abbrev pub IsRunAnswered : (Answer → Type 0) → PlannedShop → RunPaths → Result Answer CommandFault → List (List ℕ) → Type 0
-IsRunAnswered Is p run outcome asked = ByShape p run (λ files. IsAnswered Is files outcome asked) (λ files. IsAnswered (IsNotShapedLine p) files outcome asked)
+IsRunAnswered Is p run outcome asked = ByShape p run (λ files. IsAnswerOfFiles Is files outcome asked) (λ files. IsAnswerOfFiles (IsNotShapedLine p) files outcome asked)
 
 -- `check`, `explain` and `schedule`: with no job asked for, what is answered of the plan, or of the rest of the run in its log
 abbrev pub RestIsAnswered : Type 0
@@ -330,7 +330,7 @@ abbrev pub AnswersByCheck : ((List (List ℕ) → List ℕ → Result (List ℕ)
     → List (List ℕ) → Streams → Result Answer CommandFault → List (List ℕ) → Streams → Type 0) → Type 0
 AnswersByCheck runs = (before after : Streams) (content : List ℕ → Result (List ℕ) CommandFault) (inputs : InputPaths) (p : PlannedShop) (outcome : Result Answer CommandFault) (asked : List (List ℕ))
     → ParseAsPlan content inputs p → (IsWellShaped p → IsAcceptable p → ⊥) → runs (Shelf content) inputs [] before outcome asked after
-    → IsAnswered (IsCheckLine p) (inputs.path ∷ inputs.plan ∷ []) outcome asked × (after ≡ before)
+    → IsAnswerOfFiles (IsCheckLine p) (inputs.path ∷ inputs.plan ∷ []) outcome asked × (after ≡ before)
 
 abbrev pub DriveAnswersByCheck : Type 0
 DriveAnswersByCheck = (protocol : Protocol) → AnswersByCheck (λ gives inputs. RunsDrive gives protocol inputs)
@@ -339,7 +339,7 @@ DriveAnswersByCheck = (protocol : Protocol) → AnswersByCheck (λ gives inputs.
 abbrev pub ResumeAnswersUnshaped : Type 0
 ResumeAnswersUnshaped = (protocol : Protocol) (at : Option ℕ) (log : List ℕ) (before after : Streams) (content : List ℕ → Result (List ℕ) CommandFault) (inputs : InputPaths) (p : PlannedShop) (outcome : Result Answer CommandFault) (asked : List (List ℕ))
     → ParseAsPlan content inputs p → (IsWellShaped p → ⊥) → RunsResume (Shelf content) protocol at inputs log [] before outcome asked after
-    → IsAnswered (IsCheckLine p) (inputs.path ∷ inputs.plan ∷ []) outcome asked × (after ≡ before)
+    → IsAnswerOfFiles (IsCheckLine p) (inputs.path ∷ inputs.plan ∷ []) outcome asked × (after ≡ before)
 
 -- by it the run of these lines can't go on: the plan has a cycle; or they record no event, and it isn't accepted
 abbrev pub IsNoPlanFor : PlannedShop → List Entry → Type 0
@@ -350,7 +350,7 @@ abbrev pub ResumeAnswersByCheck : Type 0
 ResumeAnswersByCheck = (protocol : Protocol) (at : Option ℕ) (before after : Streams) (content : List ℕ → Result (List ℕ) CommandFault) (inputs : InputPaths) (log text : List ℕ) (p : PlannedShop) (recorded : List Entry) (outcome : Result Answer CommandFault) (asked : List (List ℕ))
     → ParseAsPlan content inputs p → IsWellShaped p → content log ≡ Ok text → LinesParse p (ended_lines text) recorded → IsRun p (events_of recorded) → (cell_after p recorded).last ≤ unwrap_or at (cell_after p recorded).last
     → IsNoPlanFor p recorded → RunsResume (Shelf content) protocol at inputs log [] before outcome asked after
-    → IsAnswered (IsCheckLine p) (inputs.path ∷ inputs.plan ∷ log ∷ []) outcome asked × (after ≡ before)
+    → IsAnswerOfFiles (IsCheckLine p) (inputs.path ∷ inputs.plan ∷ log ∷ []) outcome asked × (after ≡ before)
 
 -- the line of `check` for a plan, behind the plan's number
 pub record IsNumberedLine (number : ℕ) (p : PlannedShop) (answer : Answer) : Type 0 where
@@ -365,14 +365,14 @@ HubAnswersByCheck = (protocol : Protocol) (before after : Streams) (content : Li
     (file : List ℕ) (p : PlannedShop) (others : List (List ℕ)) (outcome : Result Answer CommandFault) (asked : List (List ℕ))
     → content path ≡ Ok instance → ParseAsAcceptedPlans content instance name files plans → ParsesAsPlanOf content instance name file p → (IsWellShaped p → IsAcceptable p → ⊥)
     → RunsHub (Shelf content) protocol path name (files ++ file ∷ others) [] before outcome asked after
-    → IsAnswered (IsNumberedLine (length files) p) (path ∷ (files ++ file ∷ [])) outcome asked × (after ≡ before)
+    → IsAnswerOfFiles (IsNumberedLine (length files) p) (path ∷ (files ++ file ∷ [])) outcome asked × (after ≡ before)
 
 -- ---- that a driven cell writes the same
 
 -- the words ask for `drive` with these files, and for no log of its own
 pub record AskForDrive (words : List (List ℕ)) (inputs : InputPaths) : Type 0 where
   pub accepted : reasons_in words ≡ []
-  pub drive : word_found (found_in words) ≡ word_of Drive
+  pub drive : word_found (found_in words) ≡ command_word_of Drive
   pub log : kept_in (rows_found (found_in words)) ≡ None
   pub path : inputs.path ≡ get_or (files_in (rows_found (found_in words))) 0 []
   pub name : inputs.name ≡ instance_in (rows_found (found_in words))
@@ -402,8 +402,8 @@ DriveWritesTheSame = (content : List ℕ → Result (List ℕ) CommandFault) (wo
 -- ---- how the program ends
 
 -- nothing is held back, unless a write of the output has failed
-abbrev pub HoldsNothing : Output → Type 0
-HoldsNothing output = (output.pending ≡ []) ⊎ (output.failed ≡ true)
+abbrev pub OutputHoldsNothing : Output → Type 0
+OutputHoldsNothing output = (output.pending ≡ []) ⊎ (output.failed ≡ true)
 
 -- the first bytes of an answer were written, and then a write failed; of a fault nothing was written
 abbrev pub IsUnanswered : Result Answer CommandFault → Output → Output → Type 0
@@ -413,7 +413,7 @@ IsUnanswered (Err fault) before after = after ≡ before
 -- what is printed of an outcome: its fault, or out of memory for the words of a refused text; of an answer, that a write of it failed
 abbrev pub IsFailureOf : Result Answer CommandFault → Output → CommandFault → Type 0
 IsFailureOf (Ok answer) after fault = (fault ≡ Write) × (after.failed ≡ true)
-IsFailureOf (Err own) after fault = (fault ≡ own) ⊎ (IsOfText own × (fault ≡ Memory))
+IsFailureOf (Err own) after fault = (fault ≡ own) ⊎ (IsTextRefusal own × (fault ≡ Memory))
 
 -- the outcome of words that choose no command: help or the version that was asked for, or out of memory; what is wrong with the words is none
 abbrev pub IsOutcomeOfWords : WordsFault → Result Answer CommandFault → Type 0
@@ -499,7 +499,7 @@ module _ {W : Type 0} (gives : W → List ℕ → Result (List ℕ) CommandFault
       ⊎ (((name ≡ Resume) × DroveOn (protocol_in chosen) chosen.at (inputs_in chosen) (file_at chosen 2) texts before after)
       ⊎ (((name ≡ Hub) × DroveCells (protocol_in chosen) (file_at chosen 0) (name_in chosen) (plans_in chosen) texts before after)
       ⊎ (((name ≡ Schedule) × DrewPicture (DrawsRest gives (run_in chosen)) texts before after)
-      ⊎ ((name ≡ Gantt) × DrewPicture (DrawsLog gives (inputs_in chosen) (names_in chosen) (file_at chosen 2)) texts before after)))))
+      ⊎ ((name ≡ Gantt) × DrewPicture (DrawsLog gives (inputs_in chosen) (names_file chosen) (file_at chosen 2)) texts before after)))))
 
   -- the command that the words choose was run to an outcome
   pub record RanCommand (words : List (List ℕ)) (before : Devices W) (outcome : Result Answer CommandFault) (mid : Streams) (after : Devices W) (log : Option LogEnd) : Type 0 where
@@ -552,7 +552,7 @@ module _ {W : Type 0} (gives : W → List ℕ → Result (List ℕ) CommandFault
   -- at the end of each run of the program nothing is held back, unless a write of the output has failed
   abbrev pub NothingIsHeldBack : Type 0
   NothingIsHeldBack = (words : List (List ℕ)) (before : Devices W) (status : ℕ) (after : Devices W) (log : Option LogEnd) → before.streams.output.pending ≡ [] → RunsProgram gives words before status after log
-      → HoldsNothing after.streams.output
+      → OutputHoldsNothing after.streams.output
 
   -- where the status is 2 or more, nothing was written but what driven cells answered, or a picture, and the first bytes of an answer whose write failed
   abbrev pub WhatFailsIsNoAnswer : Type 0

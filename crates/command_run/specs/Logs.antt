@@ -27,7 +27,7 @@ use Rattle.run_journal.specs.declared.log_run.LogRun.{LogRun}
 use Rattle.run_journal.specs.Folders.{Folder, NamedLog, IsDiskFault, IsOpenFault, handed, handed_if, held, with_fault, with_log, with_name}
 use Rattle.run_journal.specs.LogFiles.{IsReadFault, IsDurable, Leaves}
 use Rattle.run_journal.specs.Logged.{AreInStep, Held, fault_if}
-use Rattle.run_journal.specs.LogRuns.{IsNamedFor, IsNamedOrNot, IsRunOf}
+use Rattle.run_journal.specs.LogRuns.{IsNamedFor, IsNamedOrNot, IsLogRunOf}
 use Rattle.run_journal.specs.Openings.{IsUnmade}
 use Rattle.run_journal.specs.TornEnds.{is_torn}
 use Rattle.run_journal.specs.WholeLines.{torn_end, whole_lines}
@@ -243,7 +243,7 @@ module _ (folder folder_after : Folder) (path : List ℕ) where
   -- what was found is driven, if it is as the words ask, by its whole lines
   pub record DrivesFound (start : LogStart) (protocol : Protocol) (at : Option ℕ) (p : PlannedShop) (there : Option (List ℕ)) (step : Step) : Type 0 where
     pub run : LogRun
-    pub parses : IsRunOf (lines_of (whole_lines (bytes_in there))) run
+    pub parses : IsLogRunOf (lines_of (whole_lines (bytes_in there))) run
     pub misfit : Option Misfit
     pub is_misfit : SomeIfAny misfit (IsMisfit start run (digits_in p))
     pub drives : DrivesAs misfit protocol at p there step

@@ -17,14 +17,14 @@ abbrev pub NeedsBegun : LogStart → Type 0
 NeedsBegun start = (start ≡ Continue) ⊎ (start ≡ HandOver)
 
 -- the plan that it names has to be this one
-abbrev pub KeepsPlan : LogStart → Type 0
-KeepsPlan start = (start ≡ Any) ⊎ (start ≡ Continue)
+abbrev pub WantsSamePlan : LogStart → Type 0
+WantsSamePlan start = (start ≡ Any) ⊎ (start ≡ Continue)
 
 -- why a log whose lines say this of its run isn't driven by a plan with these digits: it has begun, and should be new; it hasn't begun, and should have; or its last line of a plan is another one's
 abbrev pub IsMisfit : LogStart → LogRun → RunDigits → Misfit → Type 0
 IsMisfit start run digits NotNew = (start ≡ New) × (run ≢ Unbegun)
 IsMisfit start run digits NotBegun = NeedsBegun start × (run ≡ Unbegun)
-IsMisfit start run digits (OtherPlan other) = KeepsPlan start × (run ≡ Named other) × (other ≢ digits)
+IsMisfit start run digits (OtherPlan other) = WantsSamePlan start × (run ≡ Named other) × (other ≢ digits)
 
 -- the line that says so
 abbrev pub misfit_line : Misfit → List ℕ

@@ -16,7 +16,7 @@ use Rattle.command_words.specs.declared.words.Lines.TheVariants.{One, Two}
 use Rattle.command_words.specs.declared.words.log_start.LogStart.{LogStart}
 use Rattle.command_words.specs.declared.words.WordsFault.{WordsFault}
 use Rattle.command_words.specs.declared.words.WordsFault.TheVariants.{Usage, Memory}
-use Rattle.command_words.specs.Choice.{IsChoiceOf, IsWithin, NamesOneOf, reasons_in, found_in}
+use Rattle.command_words.specs.Choice.{IsChoiceOf, IsChoiceWithin, NamesOneOf, reasons_in, found_in}
 use Rattle.command_answers.specs.declared.answer.Answer.{Answer}
 use Rattle.command_answers.specs.declared.cells.Cells.{Cells}
 use Rattle.command_answers.specs.declared.command_fault.CommandFault.{CommandFault}
@@ -43,7 +43,7 @@ use Rattle.command_run.specs.Ending.{Ends, EndsBy, IsAnswerEnd, WasPrinted}
 -- what the words of the command line are read as
 pub record AreWordsRead (words : List (List ℕ)) (read : Result Chosen WordsFault) : Type 0 where
   pub chosen : IfOk read (IsChoiceOf words (found_in words))
-  pub within : IfOk read IsWithin
+  pub within : IfOk read IsChoiceWithin
   pub accepted : IfOk read (λ _. reasons_in words ≡ [])
   pub refused : IfErr read (NamesOneOf (reasons_in words))
 
@@ -64,8 +64,8 @@ abbrev pub log_in : Chosen → Option (List ℕ)
 log_in chosen = option_map string_bytes chosen.after
 
 -- the file of names
-abbrev pub names_in : Chosen → Option (List ℕ)
-names_in chosen = option_map string_bytes chosen.names
+abbrev pub names_file : Chosen → Option (List ℕ)
+names_file chosen = option_map string_bytes chosen.names
 
 -- what is to be decided where no job is named: the least makespan, or whether the budgets can be kept
 abbrev pub overall_aim : Bool → Aim
@@ -128,9 +128,9 @@ abbrev pub given_log_in : Chosen → Option (List ℕ)
 given_log_in chosen = log_given_to chosen.name chosen
 
 -- whether the standard output goes to this log: to none where none is given, else as the folder knows it
-abbrev pub IsShown : Option (List ℕ) → Folder → Bool → Type 0
-IsShown None folder shown = shown ≡ false
-IsShown (Some path) folder shown = IfSome folder.outputs (λ paths. shown ≡ is_one_of paths path)
+abbrev pub IsOutputLog : Option (List ℕ) → Folder → Bool → Type 0
+IsOutputLog None folder shown = shown ≡ false
+IsOutputLog (Some path) folder shown = IfSome folder.outputs (λ paths. shown ≡ is_one_of paths path)
 
 -- version 2
 abbrev pub is_second : Option Lines → Bool
@@ -148,7 +148,7 @@ inputs_in chosen = record { path = file_at chosen 0; name = name_in chosen; plan
 
 -- the files of the run of whose rest is asked, and the present moment
 abbrev pub run_in : Chosen → RunPaths
-run_in chosen = record { inputs = inputs_in chosen; names = names_in chosen; log = log_in chosen; at = chosen.at }
+run_in chosen = record { inputs = inputs_in chosen; names = names_file chosen; log = log_in chosen; at = chosen.at }
 
 -- where starting again is right: the output couldn't be written, another process has the log, or the input couldn't be read to its end
 abbrev pub starts_again : Bool → Result Answer CommandFault → Bool
@@ -209,9 +209,9 @@ module _ {W : Type 0} (gives : W → List ℕ → Result (List ℕ) CommandFault
   RunsCommand Schedule chosen texts before outcome texts_after after =
       RunsTimetable gives (form_in chosen) (run_in chosen) texts before outcome texts_after after
   RunsCommand Bounds chosen texts before outcome texts_after after =
-      RunsBounds gives (inputs_in chosen) (names_in chosen) texts outcome texts_after × (after ≡ before)
+      RunsBounds gives (inputs_in chosen) (names_file chosen) texts outcome texts_after × (after ≡ before)
   RunsCommand Margin chosen texts before outcome texts_after after =
-      RunsMargin gives (inputs_in chosen) (names_in chosen) texts outcome texts_after × (after ≡ before)
+      RunsMargin gives (inputs_in chosen) (names_file chosen) texts outcome texts_after × (after ≡ before)
   RunsCommand Plan chosen texts before outcome texts_after after =
       SeeksPlan gives chosen.rounds (inputs_in chosen) texts outcome texts_after × (after ≡ before)
   RunsCommand Improve chosen texts before outcome texts_after after =
@@ -231,7 +231,7 @@ module _ {W : Type 0} (gives : W → List ℕ → Result (List ℕ) CommandFault
   RunsCommand Audit chosen texts before outcome texts_after after =
       RunsLog gives Numbers (inputs_in chosen) None (file_at chosen 2) texts outcome texts_after × (after ≡ before)
   RunsCommand Gantt chosen texts before outcome texts_after after =
-      RunsDrawing gives chosen.svg (inputs_in chosen) (names_in chosen) (file_at chosen 2) texts before outcome texts_after after
+      RunsDrawing gives chosen.svg (inputs_in chosen) (names_file chosen) (file_at chosen 2) texts before outcome texts_after after
 
   -- the command that was chosen, with the log that it keeps, if it keeps one; else no log is touched
   abbrev pub RunsChosen : Option (List ℕ) → Chosen → Devices W → Result Answer CommandFault → Streams → Devices W → Option LogEnd → Type 0
@@ -248,7 +248,7 @@ module _ {W : Type 0} (gives : W → List ℕ → Result (List ℕ) CommandFault
   -- that is asked before anything else
   pub record RunsApart (chosen : Chosen) (before : Devices W) (outcome : Result Answer CommandFault) (mid : Streams) (after : Devices W) (log : Option LogEnd) : Type 0 where
     pub shown : Bool
-    pub known : IsShown (given_log_in chosen) before.folder shown
+    pub known : IsOutputLog (given_log_in chosen) before.folder shown
     pub by : RunsBy shown chosen before outcome mid after log
 
   -- the command is run, and then its answer printed, or its fault printed, with its own status; what is answered in place of a picture is printed too

@@ -38,7 +38,7 @@ printed_for false = PlanText
 
 module _ {W : Type 0} (gives : W → List ℕ → Result (List ℕ) CommandFault → W → Type 0) where
   -- these changes are made of what the files hold
-  pub record IsRevised (file : Bool) (at : Option ℕ) (asked : List AskedChange) (inputs : InputPaths) (log : List ℕ) (before : W) (outcome : Result Answer CommandFault) (after : W) : Type 0 where
+  pub record IsRevisedFromFiles (file : Bool) (at : Option ℕ) (asked : List AskedChange) (inputs : InputPaths) (log : List ℕ) (before : W) (outcome : Result Answer CommandFault) (after : W) : Type 0 where
     pub changes : List Change
     pub are : AreChangesOf asked changes
     pub runs : RunsRevise gives (printed_for file) at changes (values_asked asked) inputs log before outcome after
@@ -46,4 +46,4 @@ module _ {W : Type 0} (gives : W → List ℕ → Result (List ℕ) CommandFault
   -- so, unless memory runs out before any file is asked for
   abbrev pub Revises : Bool → Option ℕ → List AskedChange → InputPaths → List ℕ → W → Result Answer CommandFault → W → Type 0
   Revises file at asked inputs log before outcome after =
-      IsRevised file at asked inputs log before outcome after ⊎ ((outcome ≡ Err Memory) × (after ≡ before))
+      IsRevisedFromFiles file at asked inputs log before outcome after ⊎ ((outcome ≡ Err Memory) × (after ≡ before))

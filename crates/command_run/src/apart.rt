@@ -2,8 +2,8 @@
 
 ghost use Rattle.std.specs.Prelude.{◌≡◌};
 ghost use Rattle.std.specs.Option.{option_copied};
-ghost use Rattle.command_words.specs.Choice.{IsWithin};
-ghost use Rattle.command_run.specs.Program.{IsShown, given_log_in};
+ghost use Rattle.command_words.specs.Choice.{IsChoiceWithin};
+ghost use Rattle.command_run.specs.Program.{IsOutputLog, given_log_in};
 
 use crate::command::{file, kept_log, rest_log};
 use command_words::{Chosen, CommandName};
@@ -11,7 +11,7 @@ use run_journal::Logs;
 
 /// The log that the command is given: that of whose rest is asked, a file of its own, or the one that it keeps.
 fn given_log(chosen: &Chosen) -> Option<&str>
-    requires { IsWithin chosen.now }
+    requires { IsChoiceWithin chosen.now }
     ensures { option_copied result ≡ given_log_in chosen.now }
 {
     match chosen.name {
@@ -29,8 +29,8 @@ fn given_log(chosen: &Chosen) -> Option<&str>
 
 /// Whether the standard output goes to the log that the command is given, so that its answer would stand in that.
 pub(crate) fn is_shown<L: Logs>(chosen: &Chosen, logs: &L) -> bool
-    requires { IsWithin chosen.now }
-    ensures { IsShown (given_log_in chosen.now) (L.folder logs.now) result }
+    requires { IsChoiceWithin chosen.now }
+    ensures { IsOutputLog (given_log_in chosen.now) (L.folder logs.now) result }
 {
     match given_log(chosen) {
         Some(path) => logs.is_shown_in(path),

@@ -4,10 +4,10 @@ ghost use Rattle.std.specs.Prelude.{◌≡◌, ◌<◌, ◌≤◌, [], length, o
 ghost use Rattle.std.specs.Option.{option_copied};
 ghost use Rattle.std.specs.String.{string_bytes};
 ghost use Rattle.shop_base.specs.declared.limits.TheConstants.{MAX_MOMENT};
-ghost use Rattle.command_words.specs.Choice.{IsWithin};
+ghost use Rattle.command_words.specs.Choice.{IsChoiceWithin};
 ghost use Rattle.command_answers.specs.Commands.{RunsRest};
 ghost use Rattle.command_run.specs.Program.{RunsCommand, aim_in, file_at, is_second, kept_log_in, form_in, log_in};
-ghost use Rattle.command_run.specs.Program.{names_in, protocol_in, name_in, overall_aim, inputs_in, run_in};
+ghost use Rattle.command_run.specs.Program.{names_file, protocol_in, name_in, overall_aim, inputs_in, run_in};
 
 use crate::choosers::decided_answer;
 use crate::devices::{Screen, Streams};
@@ -65,7 +65,7 @@ pub(crate) fn rest_log(chosen: &Chosen) -> Option<&str>
 
 /// The file of names.
 fn names(chosen: &Chosen) -> Option<&str>
-    ensures { option_copied result ≡ names_in chosen.now }
+    ensures { option_copied result ≡ names_file chosen.now }
 {
     path_of(&chosen.names)
 }
@@ -86,7 +86,7 @@ pub(crate) fn inputs(chosen: &Chosen) -> InputPaths<'_>
 pub(crate) fn files(chosen: &Chosen) -> Files<'_>
     requires { 1 < length chosen.now.files.items }
     ensures inputs { result.inputs ≡ inputs_in chosen.now }
-    ensures names { option_copied result.names ≡ names_in chosen.now }
+    ensures names { option_copied result.names ≡ names_file chosen.now }
 {
     Files {
         inputs: inputs(chosen),
@@ -196,7 +196,7 @@ pub(crate) fn command<T: Texts, R: Source, W: BufferedSink, S: Screen>(
     streams: &mut Streams<R, W>,
     screen: &mut S,
 ) -> Answered
-    requires within { IsWithin chosen.now }
+    requires within { IsChoiceWithin chosen.now }
     requires shown { streams.old.output.pending ≡ [] }
     ensures { RunsCommand T.gives chosen.now.name chosen.now texts.old streams.old result texts.new streams.new }
 {

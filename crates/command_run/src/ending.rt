@@ -2,7 +2,7 @@
 
 ghost use Rattle.std.specs.Prelude.{◌≡◌, IfOk, IfErr};
 ghost use Rattle.command_run.specs.Streams.{Output, errors_of, output_of};
-ghost use Rattle.command_run.specs.Ending.{WasPrinted, IsRefusalLine, IsErrorLine, IsOfText, IsTextLine};
+ghost use Rattle.command_run.specs.Ending.{WasPrinted, IsRefusalLine, IsErrorLine, IsTextRefusal, IsTextLine};
 ghost use Rattle.command_run.specs.Ending.{IsFaultPrinted, IsPrinted, Ends, EndsAside};
 
 use crate::devices::Streams;
@@ -77,7 +77,7 @@ pub fn print_fault<E: Sink>(alloc: Global, fault: &CommandFault, errors: &mut E)
 /// The line of a refused text. For another fault it is empty, and takes no memory.
 fn text_line(alloc: Global, fault: &CommandFault) -> Result<Vec<u8>, AllocError>
     ensures line { IfOk result (λ line. IsTextLine fault.now line.items) }
-    ensures no_memory { IfErr result (λ _. IsOfText fault.now) }
+    ensures no_memory { IfErr result (λ _. IsTextRefusal fault.now) }
 {
     match fault {
         CommandFault::Instance(fault) => {

@@ -3,7 +3,7 @@
 ghost use Rattle.std.specs.Prelude.{◌≡◌, ◌↔◌, IfOk, IsTrue};
 ghost use Rattle.text_lines.specs.Searches.{SomeIfAny};
 ghost use Rattle.run_journal.specs.declared.log_run.LogRun.{LogRun};
-ghost use Rattle.command_run.specs.Misfits.{NeedsBegun, IsMisfit, IsMisfitLine, IsMisfitAnswer, KeepsPlan};
+ghost use Rattle.command_run.specs.Misfits.{NeedsBegun, IsMisfit, IsMisfitLine, IsMisfitAnswer, WantsSamePlan};
 
 use command_answers::{Answer, Answered, REFUSED};
 use command_words::LogStart;
@@ -80,7 +80,7 @@ fn goes_on(start: LogStart) -> bool
 
 /// Whether the plan that it names has to be this one.
 fn keeps_plan(start: LogStart) -> bool
-    ensures { IsTrue result ↔ KeepsPlan start }
+    ensures { IsTrue result ↔ WantsSamePlan start }
 {
     matches!(start, LogStart::Any | LogStart::Continue)
 }

@@ -1,12 +1,12 @@
 //! The whole program.
 
 ghost use Rattle.std.specs.Prelude.{◌≡◌, ◌≤◌, ◌==◌, ◌&&◌, if◌then◌else◌, [], map, None, Some, Err, IfSome, true, false};
-ghost use Rattle.command_words.specs.Choice.{IsWithin};
+ghost use Rattle.command_words.specs.Choice.{IsChoiceWithin};
 ghost use Rattle.command_run.specs.Logs.{WithLog};
 ghost use Rattle.command_run.specs.Streams.{errors_of};
 ghost use Rattle.command_run.specs.Ending.{EndsBy};
 ghost use Rattle.command_run.specs.Program.{Commands, Follows, IsHistoryOfChosen, IsHistoryOfWords};
-ghost use Rattle.command_run.specs.Program.{IsShown, RunsProgram, draws_in, given_log_in, kept_log_in, starts_again};
+ghost use Rattle.command_run.specs.Program.{IsOutputLog, RunsProgram, draws_in, given_log_in, kept_log_in, starts_again};
 
 use crate::apart::is_shown;
 use crate::command::{command, inputs, kept_log, protocol};
@@ -72,7 +72,7 @@ fn follow<
     devices: Devices<T, R, W, E, S, L>,
     before: B,
 ) -> (u8, Devices<T, R, W, E, S, L>, Option<L::Log>)
-    requires within { IsWithin chosen.now }
+    requires within { IsChoiceWithin chosen.now }
     requires shown { devices.streams.output.pending ≡ [] }
     requires known { IfSome B.before (IsHistoryOfChosen T.gives chosen.now devices) }
     ensures runs { WithLog L.Log.seen L.Log.crash_states L.Log.fault L.Log.written
@@ -92,7 +92,7 @@ fn end_shown<T: Texts, R: Source, W: BufferedSink, E: Sink, S, L: Logs>(
     chosen: &Chosen,
     devices: Devices<T, R, W, E, S, L>,
 ) -> (u8, Devices<T, R, W, E, S, L>)
-    requires shown { IsShown (given_log_in chosen.now) devices.folder true }
+    requires shown { IsOutputLog (given_log_in chosen.now) devices.folder true }
     ensures { Commands T.gives chosen.now devices result.0 result.1 None }
 {
     let Devices {
@@ -130,8 +130,8 @@ fn follow_apart<
     devices: Devices<T, R, W, E, S, L>,
     before: B,
 ) -> (u8, Devices<T, R, W, E, S, L>, Option<L::Log>)
-    requires within { IsWithin chosen.now }
-    requires apart { IsShown (given_log_in chosen.now) devices.folder false }
+    requires within { IsChoiceWithin chosen.now }
+    requires apart { IsOutputLog (given_log_in chosen.now) devices.folder false }
     requires shown { devices.streams.output.pending ≡ [] }
     requires known { IfSome B.before (IsHistoryOfChosen T.gives chosen.now devices) }
     ensures runs { WithLog L.Log.seen L.Log.crash_states L.Log.fault L.Log.written
@@ -170,9 +170,9 @@ fn drive_logged<T: Texts, R: Source, W: BufferedSink + Drop, E: Sink, S, L: Logs
     devices: Devices<T, R, W, E, S, L>,
     before: B,
 ) -> (u8, Devices<T, R, W, E, S, L>, Option<L::Log>)
-    requires within { IsWithin chosen.now }
+    requires within { IsChoiceWithin chosen.now }
     requires kept { kept_log_in chosen.now ≡ Some path.now }
-    requires apart { IsShown (given_log_in chosen.now) devices.folder false }
+    requires apart { IsOutputLog (given_log_in chosen.now) devices.folder false }
     requires shown { devices.streams.output.pending ≡ [] }
     requires known { IfSome B.before (IsHistoryOfChosen T.gives chosen.now devices) }
     ensures runs { WithLog L.Log.seen L.Log.crash_states L.Log.fault L.Log.written

@@ -6,7 +6,7 @@ ghost use Rattle.text_lines.specs.declared.limits.TheConstants.{MAX_INPUT};
 ghost use Rattle.text_lines.specs.Lines.{lines_of};
 ghost use Rattle.plan_verifier.specs.Seen.{judged};
 ghost use Rattle.cell_drive.specs.InProtocol.{begun_in};
-ghost use Rattle.run_journal.specs.LogRuns.{IsRunOf};
+ghost use Rattle.run_journal.specs.LogRuns.{IsLogRunOf};
 ghost use Rattle.run_journal.specs.WholeLines.{whole_lines};
 ghost use Rattle.command_run.specs.Logs.{Begins, BeginsAccepted, BeginsBy, BeginsRun, DrivesByLog};
 ghost use Rattle.command_run.specs.Logs.{DrivesFitting, DrivesFound, HasFewLines, IsEmptyLog, IsFoundLog};
@@ -251,7 +251,7 @@ type FoundLog<D> = Option<(D, LogText)>;
 
 /// What the whole lines of the log that was found say of its run.
 fn run_found<D: LogFile + Drop>(found: &FoundLog<D>) -> LogRun
-    ensures { IsRunOf (lines_of (whole_lines (bytes_in (option_map (λ there. there.1) found.now)))) result }
+    ensures { IsLogRunOf (lines_of (whole_lines (bytes_in (option_map (λ there. there.1) found.now)))) result }
 {
     match found {
         Some((_, text)) => text.run(),

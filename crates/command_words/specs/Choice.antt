@@ -25,25 +25,25 @@ use Rattle.command_words.specs.declared.words.WordsFault.{WordsFault}
 use Rattle.command_words.specs.declared.words.WordsFault.TheVariants.{Usage, Memory}
 
 -- the word of a command; the form without words has none
-abbrev pub word_of : CommandName → Option Text
-word_of Input = None
-word_of Facts = Some (codes "facts")
-word_of Shape = Some (codes "shape")
-word_of Check = Some (codes "check")
-word_of Explain = Some (codes "explain")
-word_of Schedule = Some (codes "schedule")
-word_of Bounds = Some (codes "bounds")
-word_of Margin = Some (codes "margin")
-word_of Plan = Some (codes "plan")
-word_of Improve = Some (codes "improve")
-word_of Decide = Some (codes "decide")
-word_of Revise = Some (codes "revise")
-word_of Drive = Some (codes "drive")
-word_of Resume = Some (codes "resume")
-word_of Hub = Some (codes "hub")
-word_of Digest = Some (codes "digest")
-word_of Audit = Some (codes "audit")
-word_of Gantt = Some (codes "gantt")
+abbrev pub command_word_of : CommandName → Option Text
+command_word_of Input = None
+command_word_of Facts = Some (codes "facts")
+command_word_of Shape = Some (codes "shape")
+command_word_of Check = Some (codes "check")
+command_word_of Explain = Some (codes "explain")
+command_word_of Schedule = Some (codes "schedule")
+command_word_of Bounds = Some (codes "bounds")
+command_word_of Margin = Some (codes "margin")
+command_word_of Plan = Some (codes "plan")
+command_word_of Improve = Some (codes "improve")
+command_word_of Decide = Some (codes "decide")
+command_word_of Revise = Some (codes "revise")
+command_word_of Drive = Some (codes "drive")
+command_word_of Resume = Some (codes "resume")
+command_word_of Hub = Some (codes "hub")
+command_word_of Digest = Some (codes "digest")
+command_word_of Audit = Some (codes "audit")
+command_word_of Gantt = Some (codes "gantt")
 
 -- the command takes n files
 abbrev pub TakesFiles : CommandName → ℕ → Type 0
@@ -97,21 +97,21 @@ abbrev pub instance_in : List Row → Option Text
 instance_in rows = first_of (codes "instance") rows
 
 -- the number that is given with an option, and another where it is not said
-abbrev pub number_in : Text → ℕ → List Row → ℕ
-number_in name other rows = option_map_or (λ text. digits_value 10 (without_leading_plus text))
+abbrev pub number_chosen : Text → ℕ → List Row → ℕ
+number_chosen name other rows = option_map_or (λ text. digits_value 10 (without_leading_plus text))
     (one_of name rows) other
 
 -- the number of rounds, 20 where it is not said
 abbrev pub rounds_in : List Row → ℕ
-rounds_in = number_in (codes "rounds") 20
+rounds_in = number_chosen (codes "rounds") 20
 
 -- the seed, 0 where it is not said
 abbrev pub seed_in : List Row → ℕ
-seed_in = number_in (codes "seed") 0
+seed_in = number_chosen (codes "seed") 0
 
 -- the number of choices, 200000 where it is not said
 abbrev pub choices_in : List Row → ℕ
-choices_in = number_in (codes "choices") 200000
+choices_in = number_chosen (codes "choices") 200000
 
 -- the log of a run, of whose rest is asked
 abbrev pub after_in : List Row → Option Text
@@ -138,8 +138,8 @@ abbrev pub leap_in : List Row → Option ℕ
 leap_in rows = option_map value_of (first_of (codes "leap") rows)
 
 -- the job of whose leaving is asked
-abbrev pub job_in : List Row → Option ℕ
-job_in rows = option_map value_of (first_of (codes "job") rows)
+abbrev pub job_chosen : List Row → Option ℕ
+job_chosen rows = option_map value_of (first_of (codes "job") rows)
 
 -- whether a switch is set: it is `true`
 abbrev pub is_set : Text → List Row → Bool
@@ -150,16 +150,16 @@ abbrev pub svg_in : List Row → Bool
 svg_in = is_set (codes "svg")
 
 -- whether the moves are asked for in place of the moments
-abbrev pub moves_in : List Row → Bool
-moves_in = is_set (codes "moves")
+abbrev pub moves_chosen : List Row → Bool
+moves_chosen = is_set (codes "moves")
 
 -- the file of the names
-abbrev pub names_in : List Row → Option Text
-names_in rows = first_of (codes "names") rows
+abbrev pub names_chosen : List Row → Option Text
+names_chosen rows = first_of (codes "names") rows
 
 -- how the log that is kept has to begin: handed over, or gone on with, or new, or in any way
-abbrev pub start_in : List Row → LogStart
-start_in rows = if is_set (codes "hand-over") rows then HandOver
+abbrev pub start_chosen : List Row → LogStart
+start_chosen rows = if is_set (codes "hand-over") rows then HandOver
     else (if is_set (codes "continue") rows then Continue
     else (if is_set (codes "new") rows then New else Any))
 
@@ -173,13 +173,13 @@ file_in = is_set (codes "file")
 
 -- the choice holds the command, the files, the instance's name, the rounds, the seed, the choices, the job, the log of whose rest is asked, the log that is kept, the moment, the version of the lines, the longest time, the file of the names, how the log has to begin, the changes and the switches that were found in these words
 pub record IsChoiceOf (words : List Text) (found : Found) (chosen : Chosen) : Type 0 where
-  pub name : word_of chosen.name ≡ word_found found
+  pub name : command_word_of chosen.name ≡ word_found found
   pub files : texts_of chosen.files.items ≡ files_in (rows_found found)
   pub instance : option_map string_bytes chosen.instance ≡ instance_in (rows_found found)
   pub rounds : chosen.rounds ≡ rounds_in (rows_found found)
   pub seed : chosen.seed ≡ seed_in (rows_found found)
   pub choices : chosen.choices ≡ choices_in (rows_found found)
-  pub job : chosen.job ≡ job_in (rows_found found)
+  pub job : chosen.job ≡ job_chosen (rows_found found)
   pub least : chosen.least ≡ least_in (rows_found found)
   pub after : option_map string_bytes chosen.after ≡ after_in (rows_found found)
   pub log : option_map string_bytes chosen.log ≡ kept_in (rows_found found)
@@ -187,9 +187,9 @@ pub record IsChoiceOf (words : List Text) (found : Found) (chosen : Chosen) : Ty
   pub lines : chosen.lines ≡ lines_in (rows_found found)
   pub leap : chosen.leap ≡ leap_in (rows_found found)
   pub svg : chosen.svg ≡ svg_in (rows_found found)
-  pub moves : chosen.moves ≡ moves_in (rows_found found)
-  pub names : option_map string_bytes chosen.names ≡ names_in (rows_found found)
-  pub start : chosen.start ≡ start_in (rows_found found)
+  pub moves : chosen.moves ≡ moves_chosen (rows_found found)
+  pub names : option_map string_bytes chosen.names ≡ names_chosen (rows_found found)
+  pub start : chosen.start ≡ start_chosen (rows_found found)
   pub changes : map change_seen chosen.changes.items ≡ changes_in words (rows_found found)
   pub file : chosen.file ≡ file_in (rows_found found)
 
@@ -200,9 +200,9 @@ pub record AreMarksOf (rows : List Row) (marks : Marks) : Type 0 where
   pub lines : marks.lines ≡ lines_in rows
   pub leap : marks.leap ≡ leap_in rows
   pub soon : IfSome marks.leap (λ n. n ≤ latest_moment)
-  pub job : marks.job ≡ job_in rows
-  pub moves : marks.moves ≡ moves_in rows
-  pub start : marks.start ≡ start_in rows
+  pub job : marks.job ≡ job_chosen rows
+  pub moves : marks.moves ≡ moves_chosen rows
+  pub start : marks.start ≡ start_chosen rows
 
 -- its files and other texts
 pub record AreTextsOf (rows : List Row) (given : GivenTexts) : Type 0 where
@@ -210,10 +210,10 @@ pub record AreTextsOf (rows : List Row) (given : GivenTexts) : Type 0 where
   pub instance : option_map string_bytes given.instance ≡ instance_in rows
   pub after : option_map string_bytes given.after ≡ after_in rows
   pub log : option_map string_bytes given.log ≡ kept_in rows
-  pub names : option_map string_bytes given.names ≡ names_in rows
+  pub names : option_map string_bytes given.names ≡ names_chosen rows
 
 -- the choice has as many files as its command takes, no more rounds than a search may have, no greater seed than it takes, a choice at least and no more than a search may have, no moment past the latest, and no longer time than that
-pub record IsWithin (chosen : Chosen) : Type 0 where
+pub record IsChoiceWithin (chosen : Chosen) : Type 0 where
   pub files : TakesFiles chosen.name (length chosen.files.items)
   pub rounds : chosen.rounds ≤ most_rounds
   pub seed : chosen.seed ≤ greatest_seed
@@ -288,15 +288,15 @@ abbrev pub moves_misfit : List Row → Kinds
 moves_misfit rows = refused_if (are_both_set (codes "svg") (codes "moves") rows) ArgumentConflict []
 
 -- the log has to have begun
-abbrev pub goes_on : LogStart → Bool
-goes_on Any = false
-goes_on New = false
-goes_on Continue = true
-goes_on HandOver = true
+abbrev pub continues_log : LogStart → Bool
+continues_log Any = false
+continues_log New = false
+continues_log Continue = true
+continues_log HandOver = true
 
 -- the log is to be new and to have begun
 abbrev pub is_twofold : LogStart → List Row → Bool
-is_twofold start rows = is_set (codes "new") rows && goes_on start
+is_twofold start rows = is_set (codes "new") rows && continues_log start
 
 -- a beginning is asked for
 abbrev pub is_asked : LogStart → Bool
@@ -311,8 +311,8 @@ lacks_log start rows = is_asked start && not (is_some (log_given rows))
 
 -- so of how the log has to begin: it isn't both new and begun, and there has to be one
 abbrev pub start_misfit : List Row → Kinds
-start_misfit rows = refused_if (is_twofold (start_in rows) rows) ArgumentConflict
-    (refused_if (lacks_log (start_in rows) rows) MissingRequiredArgument [])
+start_misfit rows = refused_if (is_twofold (start_chosen rows) rows) ArgumentConflict
+    (refused_if (lacks_log (start_chosen rows) rows) MissingRequiredArgument [])
 
 -- so of all that has to fit together but the changes, or else for these reasons
 abbrev pub marks_misfit : List Row → Kinds → Kinds
@@ -363,7 +363,7 @@ FitsBetween least most (Some text) =
 -- takes and numbers within their limits, or no command
 abbrev pub IsFit : Found → Type 0
 IsFit None = Unit {0}
-IsFit (Some p) = ((name : CommandName) × (word_of name ≡ Some p.0)
+IsFit (Some p) = ((name : CommandName) × (command_word_of name ≡ Some p.0)
     × TakesFiles name (length (files_in p.1)))
     × FitsBetween 0 most_rounds (one_of (codes "rounds") p.1) × FitsBetween 0 greatest_seed (one_of (codes "seed") p.1)
     × FitsBetween 1 most_choices (one_of (codes "choices") p.1)

@@ -8,13 +8,13 @@ ghost use Rattle.clap.specs.Words.{Kinds, first_of, found_of, kind_of, one_of, r
 ghost use Rattle.command_words.specs.declared.words.CommandName.{CommandName};
 ghost use Rattle.command_words.specs.CommandLine.{most_rounds, greatest_seed, most_choices, latest_moment};
 ghost use Rattle.command_words.specs.Given.{is_moment, is_number, values_of};
-ghost use Rattle.command_words.specs.Choice.{AreMarksOf, AreTextsOf, FitsBetween, IsChoiceOf, IsFit, IsWithin, NamesOneOf};
+ghost use Rattle.command_words.specs.Choice.{AreMarksOf, AreTextsOf, FitsBetween, IsChoiceOf, IsFit, IsChoiceWithin, NamesOneOf};
 ghost use Rattle.command_words.specs.Choice.{NamesReason, marks_misfit};
 ghost use Rattle.command_words.specs.Choice.{are_both, at_in, choices_in, decision_misfit, are_both_set, files_in};
-ghost use Rattle.command_words.specs.Choice.{first_given, found_in, is_set, job_in, job_misfit, kept_in, leap_in};
+ghost use Rattle.command_words.specs.Choice.{first_given, found_in, is_set, job_chosen, job_misfit, kept_in, leap_in};
 ghost use Rattle.command_words.specs.Choice.{leap_misfit, lines_in, lines_misfit, log_given, misfit_in, misfit_of};
-ghost use Rattle.command_words.specs.Choice.{misfits_of, moves_in, moves_misfit, number_misfit, reasons_in, rounds_in};
-ghost use Rattle.command_words.specs.Choice.{seed_in, texts_of, version_of, word_of};
+ghost use Rattle.command_words.specs.Choice.{misfits_of, moves_chosen, moves_misfit, number_misfit, reasons_in, rounds_in};
+ghost use Rattle.command_words.specs.Choice.{seed_in, texts_of, version_of, command_word_of};
 
 mod changes;
 mod command_line;
@@ -219,7 +219,7 @@ impl From<Refusal> for WordsFault {
 /// has it.
 pub fn read_words(alloc: Global, words: &[&str]) -> Result<Chosen, WordsFault>
     ensures chosen { let given = map (λ word. word.now) words.now in IfOk result (IsChoiceOf given (found_in given)) }
-    ensures within { IfOk result IsWithin }
+    ensures within { IfOk result IsChoiceWithin }
     ensures accepted { IfOk result (λ _. reasons_in (map (λ word. word.now) words.now) ≡ []) }
     ensures refused { IfErr result (NamesOneOf (reasons_in (map (λ word. word.now) words.now))) }
 {
@@ -253,7 +253,7 @@ fn fault_of(alloc: Global, error: &clap::Error) -> WordsFault
 fn chosen_by(alloc: Global, words: &[&str], matches: &ArgMatches<'_>) -> Result<Chosen, WordsFault>
     requires { IsFit (subcommand_rows_of matches.now) }
     ensures holds { IfOk result (IsChoiceOf (map (λ word. word.now) words.now) (subcommand_rows_of matches.now)) }
-    ensures within { IfOk result IsWithin }
+    ensures within { IfOk result IsChoiceWithin }
     ensures fits { IfOk result
         (λ _. misfit_in (map (λ word. word.now) words.now) (subcommand_rows_of matches.now) ≡ []) }
     ensures refused { IfErr result
@@ -295,7 +295,7 @@ fn chosen_of(
     requires { IsFit (Some (word.now, rows_of (found_of matches.now))) }
     ensures holds { IfOk result
         (IsChoiceOf (map (λ given. given.now) words.now) (Some (word.now, rows_of (found_of matches.now)))) }
-    ensures within { IfOk result IsWithin }
+    ensures within { IfOk result IsChoiceWithin }
     ensures fits { IfOk result
         (λ _. misfit_in (map (λ given. given.now) words.now) (Some (word.now, rows_of (found_of matches.now))) ≡ []) }
     ensures refused { IfErr result (NamesOneOf
@@ -360,8 +360,8 @@ fn given_of(alloc: Global, matches: &ArgMatches<'_>) -> Result<GivenTexts, Alloc
 
 /// The command of a word.
 fn name_of(word: &str) -> CommandName
-    requires { (name : CommandName) × (word_of name ≡ Some word.now) }
-    ensures { word_of result ≡ Some word.now }
+    requires { (name : CommandName) × (command_word_of name ≡ Some word.now) }
+    ensures { command_word_of result ≡ Some word.now }
 {
     match word {
         "facts" => CommandName::Facts,
@@ -614,7 +614,7 @@ fn leap_of(alloc: Global, matches: &ArgMatches<'_>) -> Result<Option<u64>, Words
 
 /// The job of whose leaving is asked, if one is given. It doesn't go with the least makespan.
 fn job_of(alloc: Global, matches: &ArgMatches<'_>) -> Result<Option<u32>, WordsFault>
-    ensures exact { IfOk result (λ job. job ≡ job_in (rows_of (found_of matches.now))) }
+    ensures exact { IfOk result (λ job. job ≡ job_chosen (rows_of (found_of matches.now))) }
     ensures fits { IfOk result (λ _. decision_misfit (rows_of (found_of matches.now)) ≡ []) }
     ensures refused { IfErr result (NamesOneOf (decision_misfit (rows_of (found_of matches.now)))) }
 {
@@ -626,7 +626,7 @@ fn job_of(alloc: Global, matches: &ArgMatches<'_>) -> Result<Option<u32>, WordsF
 
 /// The job that is given, if it is.
 fn job_given(alloc: Global, matches: &ArgMatches<'_>) -> Result<Option<u32>, WordsFault>
-    ensures exact { IfOk result (λ job. job ≡ job_in (rows_of (found_of matches.now))) }
+    ensures exact { IfOk result (λ job. job ≡ job_chosen (rows_of (found_of matches.now))) }
     ensures fits { IfOk result (λ _. job_misfit (rows_of (found_of matches.now)) ≡ []) }
     ensures refused { IfErr result (NamesOneOf (job_misfit (rows_of (found_of matches.now)))) }
 {
@@ -645,7 +645,7 @@ fn job_given(alloc: Global, matches: &ArgMatches<'_>) -> Result<Option<u32>, Wor
 
 /// Whether the moves are printed in place of the moments. They aren't drawn.
 fn moves_of(alloc: Global, matches: &ArgMatches<'_>) -> Result<bool, WordsFault>
-    ensures exact { IfOk result (λ moves. moves ≡ moves_in (rows_of (found_of matches.now))) }
+    ensures exact { IfOk result (λ moves. moves ≡ moves_chosen (rows_of (found_of matches.now))) }
     ensures fits { IfOk result (λ _. moves_misfit (rows_of (found_of matches.now)) ≡ []) }
     ensures refused { IfErr result (NamesOneOf (moves_misfit (rows_of (found_of matches.now)))) }
 {

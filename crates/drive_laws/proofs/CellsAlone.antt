@@ -9,7 +9,7 @@ use Rattle.shop_base.proofs.StatedNumber.{ends_on_the_stated_number-holds}
 use Rattle.byte_streams.specs.Answering.{AnswerAll}
 use Rattle.plan_verifier.specs.Accepted.{VerifiedPlan, IsVerified}
 use Rattle.cell_tables.specs.{declared.claim.Claim.TheVariants.{Report, FinishStep, CleanAfter, CleanAfterStep}, declared.entry.Entry.Entry, Events.events_of}
-use Rattle.cell_control.specs.Control.{Control, IsAnswered, at_start}
+use Rattle.cell_control.specs.Control.{Control, IsAnswered, control_at_start}
 use Rattle.cell_control.specs.Promises.{IsCalled, AreCalled, not_yet, once_more, IsControllerAfter}
 use Rattle.cell_control.proofs.{Promises.calls_make_the_controlled_run, Reasons.reason-cannot}
 use Rattle.event_lines.specs.declared.requests.Request.{TheVariants.{Claim as ClaimRequest, Status}, Request}
@@ -322,7 +322,7 @@ as_alone plans lines text end verified all k v found =
     let seen = sees_all plain k lines (hub_start plans) end 1 text c (starts_at plans k v found) (hub_plainly lines text (hub_start plans) end all) in
     let made = calls v k 1 (start v.planned) lines seen.events seen.last [] true (start_on_course v.planned is_verified.schedule.shaped) seen.sees in
     let last : Control = now v k seen.last made.orders_last made.still in
-    let called : AreCalled (at_start v) made.reports_had made.events last =
+    let called : AreCalled (control_at_start v) made.reports_had made.events last =
     subst (λ (n : ℕ). AreCalled (record { planned = v.planned; times = v.times; cell = start v.planned; orders = []; left = n; began = 0; punctual = true }) made.reports_had made.events last) (start-reports_left v.planned) made.called in
     let after : IsControllerAfter v made.reports_had made.events last = calls_make_the_controlled_run v made.reports_had made.events last called in (
       record { plan = v; cell = seen.last },

@@ -20,7 +20,7 @@ use Rattle.cell_drive.proofs.ProtocolParses.{protocol_line_parses}
 use Rattle.run_journal.specs.{LogFiles.IsLeft, WholeLines.whole_lines, LoggedLines.logged}
 use Rattle.run_journal.proofs.Formed.{IsFormed, formed-both, formed-line, left_torn}
 use Rattle.run_journal.proofs.{LeftEvents.left_log, ByLines.ended_whole}
-use Rattle.logged_drive.specs.CrashLaw.{IsRecoveredAgain, AreAnswered, IsGiven, ADrivenRunIsRecovered, IsRecoveredOnceMore, ARecoveredRunIsRecovered}
+use Rattle.logged_drive.specs.CrashLaw.{IsRecoveredAgain, AreLinesAnswered, IsGiven, ADrivenRunIsRecovered, IsRecoveredOnceMore, ARecoveredRunIsRecovered}
 use Rattle.logged_drive.proofs.{FormedAnswers.{all_formed, formed_moves, last_formed}, FormedStates.protocol_formed}
 
 none_in_front : (front back : List Entry) → front ++ back ≡ [] → front ≡ []
@@ -60,10 +60,10 @@ module _ (p : PlannedShop) (base : List ℕ) (recorded : List Entry) (text shown
 -- ---- what was answered
 
 module _ (p : PlannedShop) (shaped : IsWellShaped p) (protocol : Protocol) where
-  answered_parse : (before end : DrivenCell) (lines : List (Option (List ℕ))) (text : List ℕ) → IsOnCourse p before.cell → AreAnswered p protocol before lines text end → AreParsed p shaped before text end
+  answered_parse : (before end : DrivenCell) (lines : List (Option (List ℕ))) (text : List ℕ) → IsOnCourse p before.cell → AreLinesAnswered p protocol before lines text end → AreParsed p shaped before text end
   answered_parse before end lines text on all = all_parsed p shaped (ProtocolAnswers p protocol) (protocol_lines_keep p protocol) (protocol_line_parses p shaped protocol) lines before end 1 text on all
 
-  answered_formed : (before end : DrivenCell) (lines : List (Option (List ℕ))) (text : List ℕ) → IsOnCourse p before.cell → AreAnswered p protocol before lines text end → IsFormed text
+  answered_formed : (before end : DrivenCell) (lines : List (Option (List ℕ))) (text : List ℕ) → IsOnCourse p before.cell → AreLinesAnswered p protocol before lines text end → IsFormed text
   answered_formed before end lines text on all = all_formed p shaped (ProtocolAnswers p protocol) (protocol_lines_keep p protocol) (protocol_formed p shaped protocol) lines before end 1 text on all
 
 whole_text : (p : PlannedShop) (text : List ℕ) (entries : List Entry) → ParsesFirst p text entries → LinesParse p (lines_of text) entries
@@ -133,7 +133,7 @@ module _ (recovered : Recovered) (run : IsRecoveredRun recovered) where
   }
 
   recovers_again : (protocol : Protocol) (base : List ℕ) (at : Option ℕ) (lines : List (Option (List ℕ))) (answers closing shown pending left : List ℕ) (end : DrivenCell)
-      → whole_lines base ≡ base → IsRecovered p (ended_lines base) at recovered → AreAnswered p protocol (driven_so_far p noted) lines answers end → IsGiven p (due_text recovered ++ answers) shown pending closing end
+      → whole_lines base ≡ base → IsRecovered p (ended_lines base) at recovered → AreLinesAnswered p protocol (driven_so_far p noted) lines answers end → IsGiven p (due_text recovered ++ answers) shown pending closing end
       → IsLeft (length (base ++ logged shown)) (base ++ logged (shown ++ pending)) left → IsRecoveredOnceMore p recovered shown left end
   recovers_again protocol base at lines answers closing shown pending left end whole up are given is =
       let from = up.recovered_from in
@@ -163,7 +163,7 @@ module _ (recovered : Recovered) (run : IsRecoveredRun recovered) where
 -- what is so of the plan of a run, is so of the plan that it is
 abbrev TakesAgain : Recovered → Protocol → List ℕ → Option ℕ → List (Option (List ℕ)) → List ℕ → List ℕ → List ℕ → List ℕ → List ℕ → DrivenCell → PlannedShop → Type 0
 TakesAgain recovered protocol base at lines answers closing shown pending left end p =
-    IsRecovered p (ended_lines base) at recovered → AreAnswered p protocol (driven_so_far p recovered.log.entries) lines answers end → IsGiven p (due_text recovered ++ answers) shown pending closing end
+    IsRecovered p (ended_lines base) at recovered → AreLinesAnswered p protocol (driven_so_far p recovered.log.entries) lines answers end → IsGiven p (due_text recovered ++ answers) shown pending closing end
     → IsRecoveredOnceMore p recovered shown left end
 
 pub recovered_again_run : ARecoveredRunIsRecovered

@@ -24,8 +24,8 @@ pub record IsRecoveredAgain (p : PlannedShop) (recorded came : List Entry) (show
   pub torn : is_torn (torn_end left) ≡ true
 
 -- these lines are answered by this text by a protocol
-abbrev pub AreAnswered : PlannedShop → Protocol → DrivenCell → List (Option (List ℕ)) → List ℕ → DrivenCell → Type 0
-AreAnswered p protocol start lines text end = AnswerAll (ProtocolAnswers p protocol) start 1 lines text end
+abbrev pub AreLinesAnswered : PlannedShop → Protocol → DrivenCell → List (Option (List ℕ)) → List ℕ → DrivenCell → Type 0
+AreLinesAnswered p protocol start lines text end = AnswerAll (ProtocolAnswers p protocol) start 1 lines text end
 
 -- a text was given to a log and an output, of which some was shown: the first of these answers, and of the closing line, where that stands behind them
 pub record IsGiven (p : PlannedShop) (text shown pending closing : List ℕ) (end : DrivenCell) : Type 0 where
@@ -36,7 +36,7 @@ pub record IsGiven (p : PlannedShop) (text shown pending closing : List ℕ) (en
 -- so it is with a log of whole lines that recorded no event, and then got of what `drive` writes what a log gets
 abbrev pub ADrivenRunIsRecovered : Type 0
 ADrivenRunIsRecovered = (p : PlannedShop) (protocol : Protocol) (base : List ℕ) (lines : List (Option (List ℕ))) (answers closing shown pending left : List ℕ) (end : DrivenCell) → IsWellShaped p → IsAcceptable p
-    → whole_lines base ≡ base → LinesParse p (ended_lines base) [] → AreAnswered p protocol (undriven p) lines answers end → IsGiven p answers shown pending closing end
+    → whole_lines base ≡ base → LinesParse p (ended_lines base) [] → AreLinesAnswered p protocol (undriven p) lines answers end → IsGiven p answers shown pending closing end
     → IsLeft (length (base ++ logged shown)) (base ++ logged (shown ++ pending)) left → IsRecoveredAgain p [] end.entries shown left
 
 -- the run in whole lines was recovered, and goes on with these events; of what is written then, the log got what a log gets behind them
@@ -48,7 +48,7 @@ pub record IsRecoveredOnceMore (p : PlannedShop) (recovered : Recovered) (shown 
 abbrev pub ARecoveredRunIsRecovered : Type 0
 ARecoveredRunIsRecovered = (p : PlannedShop) (protocol : Protocol) (base : List ℕ) (at : Option ℕ) (recovered : Recovered) (lines : List (Option (List ℕ))) (answers closing shown pending left : List ℕ) (end : DrivenCell)
     → whole_lines base ≡ base → IsRecovered p (ended_lines base) at recovered
-    → AreAnswered p protocol (driven_so_far p recovered.log.entries) lines answers end → IsGiven p (due_text recovered ++ answers) shown pending closing end
+    → AreLinesAnswered p protocol (driven_so_far p recovered.log.entries) lines answers end → IsGiven p (due_text recovered ++ answers) shown pending closing end
     → IsLeft (length (base ++ logged shown)) (base ++ logged (shown ++ pending)) left → IsRecoveredOnceMore p recovered shown left end
 
 -- behind a start an output has written what was shown. From whatever a crash leaves of the log the run is recovered, with all events of that
@@ -67,12 +67,12 @@ pub record IsOfItsPlan (p : PlannedShop) (digits : RunDigits) (recorded came : L
 abbrev pub ADrivenLogIsOfItsPlan : Type 0
 ADrivenLogIsOfItsPlan = (p : PlannedShop) (protocol : Protocol) (digits : RunDigits) (had base : List ℕ) (lines : List (Option (List ℕ))) (answers closing shown pending left : List ℕ) (end : DrivenCell)
     → IsWellShaped p → IsAcceptable p → AreDigits digits → whole_lines had ≡ had → IsNamedFor digits had base → LinesParse p (ended_lines base) []
-    → AreAnswered p protocol (undriven p) lines answers end → IsGiven p answers shown pending closing end
+    → AreLinesAnswered p protocol (undriven p) lines answers end → IsGiven p answers shown pending closing end
     → IsLeft (length (base ++ logged shown)) (base ++ logged (shown ++ pending)) left → IsOfItsPlan p digits [] end.entries shown left
 
 abbrev pub ARecoveredLogIsOfItsPlan : Type 0
 ARecoveredLogIsOfItsPlan = (p : PlannedShop) (protocol : Protocol) (digits : RunDigits) (had base : List ℕ) (at : Option ℕ) (recovered : Recovered) (lines : List (Option (List ℕ))) (answers closing shown pending left : List ℕ)
     (end : DrivenCell) → AreDigits digits → whole_lines had ≡ had → IsNamedFor digits had base → IsRecovered p (ended_lines base) at recovered
-    → AreAnswered p protocol (driven_so_far p recovered.log.entries) lines answers end → IsGiven p (due_text recovered ++ answers) shown pending closing end
+    → AreLinesAnswered p protocol (driven_so_far p recovered.log.entries) lines answers end → IsGiven p (due_text recovered ++ answers) shown pending closing end
     → IsLeft (length (base ++ logged shown)) (base ++ logged (shown ++ pending)) left
     → (came : List Entry) × (end.entries ≡ replayed_events recovered ++ came) × IsOfItsPlan p digits (replayed_events recovered) came shown left

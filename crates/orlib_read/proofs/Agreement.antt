@@ -13,7 +13,7 @@ use Rattle.orlib_read.specs.Kinds.{unfilled_lines}
 use Rattle.orlib_read.specs.Instance.{IsInstance, IsInstanceOf}
 use Rattle.orlib_read.specs.Faults.{IsInstanceFault, IsInstanceOfFault}
 use Rattle.orlib_read.specs.Reading.{Content, instance_at, section_at}
-use Rattle.orlib_read.specs.Answers.{IsRead, IsRefused, content_with, GivesNoShop, Answers}
+use Rattle.orlib_read.specs.Answers.{IsReadInstance, IsRefusedInstance, content_with, GivesNoShop, Answers}
 use Rattle.orlib_read.proofs.Numbers.{done, failed, ok_is, err_is}
 use Rattle.orlib_read.proofs.Drafts.{instance_is, instance_again, instance_fault, instance_cut, instance_extra}
 use Rattle.orlib_read.proofs.Sections.{section_content, section_content_again, section_fault, section_lacks, section_cut}
@@ -117,7 +117,7 @@ found a (Ok named) h = a.is (content_with named.description.items named.shop) h.
 found a (Err fault) h = tt
 
 pub only : {reading : Result Content OrFault} {Is : List ℕ → JobShop → Type 0} {Wrong : OrFault → Type 0} → Agrees reading Is Wrong
-    → (result : Result Named OrFault) → Answers result reading → (description : List ℕ) (shop : JobShop) → Is description shop → IsRead result description shop
+    → (result : Result Named OrFault) → Answers result reading → (description : List ℕ) (shop : JobShop) → Is description shop → IsReadInstance result description shop
 only a (Ok named) h description shop i =
     let e = ok_is (content_with named.description.items named.shop) (content_with description shop) (sym h.0 ∙ a.again description shop i) in
     (ap (λ (c : Content). c.description) e, ap (λ (c : Content). c.shop) e)
@@ -135,7 +135,7 @@ fault {Wrong = Wrong} a (Err answered) h = λ other. elim (h other) [
 ]
 
 pub first : {reading : Result Content OrFault} {Is : List ℕ → JobShop → Type 0} {Wrong : OrFault → Type 0} → Agrees reading Is Wrong
-    → (result : Result Named OrFault) → Answers result reading → (fault : OrFault) → Wrong fault → IsRefused result fault
+    → (result : Result Named OrFault) → Answers result reading → (fault : OrFault) → Wrong fault → IsRefusedInstance result fault
 first a (Ok named) h fault w = elim (a.wrong fault w) [
   | inl e ↦ read_or_failed (content_with named.description.items named.shop) fault h.0 e
   | inr none ↦ shop_or_none (content_with named.description.items named.shop) h.0 h.1 none

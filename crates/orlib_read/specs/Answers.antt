@@ -11,13 +11,13 @@ use Rattle.orlib_read.specs.declared.or_fault.OrFault.TheVariants.{Shop, Memory}
 use Rattle.orlib_read.specs.Reading.{Content}
 
 -- the answer is this description and shop, unless memory ran out
-abbrev pub IsRead : Result Named OrFault → List ℕ → JobShop → Type 0
-IsRead (Ok named) description shop = (named.description.items ≡ description) × (named.shop ≡ shop)
-IsRead (Err fault) description shop = fault ≡ Memory
+abbrev pub IsReadInstance : Result Named OrFault → List ℕ → JobShop → Type 0
+IsReadInstance (Ok named) description shop = (named.description.items ≡ description) × (named.shop ≡ shop)
+IsReadInstance (Err fault) description shop = fault ≡ Memory
 
 -- each description and shop of which this holds is the answer, unless memory ran out
 abbrev pub ReadsEach : Result Named OrFault → (List ℕ → JobShop → Type 0) → Type 0
-ReadsEach answer Is = (description : List ℕ) (shop : JobShop) → Is description shop → IsRead answer description shop
+ReadsEach answer Is = (description : List ℕ) (shop : JobShop) → Is description shop → IsReadInstance answer description shop
 
 -- each route of which this holds is the answer, unless memory ran out
 abbrev pub ReadsRoute : Result (Vec Step Global) OrFault → (List Step → Type 0) → Type 0
@@ -25,9 +25,9 @@ ReadsRoute (Ok steps) Is = (route : List Step) → Is route → steps.items ≡ 
 ReadsRoute (Err fault) Is = (route : List Step) → Is route → fault ≡ Memory
 
 -- the answer is this fault, unless memory ran out
-abbrev pub IsRefused : Result Named OrFault → OrFault → Type 0
-IsRefused (Ok named) fault = ⊥
-IsRefused (Err answered) fault = answered ≢ Memory → answered ≡ fault
+abbrev pub IsRefusedInstance : Result Named OrFault → OrFault → Type 0
+IsRefusedInstance (Ok named) fault = ⊥
+IsRefusedInstance (Err answered) fault = answered ≢ Memory → answered ≡ fault
 
 -- the content of an instance with this description and shop
 abbrev pub content_with : List ℕ → JobShop → Content

@@ -7,7 +7,7 @@ ghost use Rattle.orlib_read.specs.declared.or_fault.OrFault.{OrFault};
 ghost use Rattle.orlib_read.specs.Kinds.{unfilled_lines, first_line, IsJobLine};
 ghost use Rattle.orlib_read.specs.Instance.{IsInstance, IsInstanceOf};
 ghost use Rattle.orlib_read.specs.Faults.{IsInstanceFault, IsInstanceOfFault, IsOddLine, IsWordLine};
-ghost use Rattle.orlib_read.specs.Answers.{ReadsEach, ReadsRoute, IsRefused, Answers};
+ghost use Rattle.orlib_read.specs.Answers.{ReadsEach, ReadsRoute, IsRefusedInstance, Answers};
 ghost use Rattle.orlib_read.specs.Reading.{Content, Gives, instance_at, section_at};
 ghost use Rattle.orlib_read.specs.Views.{content_of, IsShopFault};
 
@@ -30,7 +30,7 @@ pub fn read_instance(alloc: Global, text: &[u8]) -> Result<Named, OrFault>
 
     // A fault is what is wrong first, and what is wrong first is the fault.
     ensures fault { IfErr result (λ fault. fault ≢ OrFault.Memory → IsInstanceFault text.now fault) }
-    ensures first { (fault : OrFault) → IsInstanceFault text.now fault → IsRefused result fault }
+    ensures first { (fault : OrFault) → IsInstanceFault text.now fault → IsRefusedInstance result fault }
 {
     named(alloc, instance_draft(alloc, text))
 }
@@ -44,7 +44,7 @@ pub fn read_from_collection(alloc: Global, text: &[u8], name: &[u8]) -> Result<N
 
     // A fault is what is wrong first, and what is wrong first is the fault.
     ensures fault { IfErr result (λ fault. fault ≢ OrFault.Memory → IsInstanceOfFault text.now name.now fault) }
-    ensures first { (fault : OrFault) → IsInstanceOfFault text.now name.now fault → IsRefused result fault }
+    ensures first { (fault : OrFault) → IsInstanceOfFault text.now name.now fault → IsRefusedInstance result fault }
 {
     named(alloc, section_draft(alloc, text, name))
 }

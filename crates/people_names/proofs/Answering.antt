@@ -5,13 +5,13 @@ use Rattle.toml.specs.Data.{Members}
 use Rattle.people_names.specs.declared.names_fault.NamesFault.{NamesFault}
 use Rattle.people_names.specs.declared.names_fault.NamesFault.TheVariants.{NotToml, UnknownKey, NotArray, NotText, BadName, NameTwice, BadClock, TooManyNames, Memory}
 use Rattle.people_names.specs.NameBooks.{NameBook}
-use Rattle.people_names.specs.Documents.{IsDocument, IsNamesText, IsFirstNamesFault, IsNoDocument, IsFirstOf}
-use Rattle.people_names.specs.Answers.{IsRead, IsRefused, Passes}
+use Rattle.people_names.specs.Documents.{IsNamesDocument, IsNamesText, IsFirstNamesFault, IsNoNamesDocument, IsFirstOf}
+use Rattle.people_names.specs.Answers.{IsReadNames, IsRefusedNames, Passes}
 use Rattle.people_names.specs.Faults.{faults_of}
 use Rattle.people_names.specs.Reading.{names_in}
 
 -- a text has one table
-one_table : (text : List ℕ) (t u : Members) → IsDocument text t → IsDocument text u → t ≡ u
+one_table : (text : List ℕ) (t u : Members) → IsNamesDocument text t → IsNamesDocument text u → t ≡ u
 one_table text t u h k = same_Some t u (sym h.read ∙ k.read)
 
 first_same : (faults : List NamesFault) (a b : NamesFault) → IsFirstOf faults a → IsFirstOf faults b → a ≡ b
@@ -33,13 +33,13 @@ memory_or_not Memory = inl refl
 module _ (jobs machines : ℕ) where
   -- ---- the text is a document with this table
 
-  pub found : (text : List ℕ) (t : Members) (result : Result NameBook NamesFault) → IsDocument text t
+  pub found : (text : List ℕ) (t : Members) (result : Result NameBook NamesFault) → IsNamesDocument text t
       → Passes (faults_of jobs machines t) result → IfOk result (λ names. names ≡ names_in t) → IfOk result (λ names. IsNamesText jobs machines text names)
   found text t (Ok names) document none is = record { table = t; document = document; right = none; are = is }
   found text t (Err fault) document first is = tt
 
-  pub only : (text : List ℕ) (t : Members) (result : Result NameBook NamesFault) → IsDocument text t
-      → Passes (faults_of jobs machines t) result → IfOk result (λ names. names ≡ names_in t) → (names : NameBook) → IsNamesText jobs machines text names → IsRead result names
+  pub only : (text : List ℕ) (t : Members) (result : Result NameBook NamesFault) → IsNamesDocument text t
+      → Passes (faults_of jobs machines t) result → IfOk result (λ names. names ≡ names_in t) → (names : NameBook) → IsNamesText jobs machines text names → IsReadNames result names
   only text t (Ok answered) document none is names h =
       let same = one_table text t h.table document h.document in
       is ∙ ap names_in same ∙ sym h.are
@@ -51,13 +51,13 @@ module _ (jobs machines : ℕ) where
         | inr other ↦ absurd (rw none at (first other))
       ]
 
-  pub fault_is_first : (text : List ℕ) (t : Members) (result : Result NameBook NamesFault) → IsDocument text t
+  pub fault_is_first : (text : List ℕ) (t : Members) (result : Result NameBook NamesFault) → IsNamesDocument text t
       → Passes (faults_of jobs machines t) result → IfErr result (λ fault. fault ≢ Memory → IsFirstNamesFault jobs machines text fault)
   fault_is_first text t (Ok names) document none = tt
   fault_is_first text t (Err fault) document first = λ other. inr (record { table = t; document = document; is = first other })
 
-  pub first_is_fault : (text : List ℕ) (t : Members) (result : Result NameBook NamesFault) → IsDocument text t
-      → Passes (faults_of jobs machines t) result → (fault : NamesFault) → IsFirstNamesFault jobs machines text fault → IsRefused result fault
+  pub first_is_fault : (text : List ℕ) (t : Members) (result : Result NameBook NamesFault) → IsNamesDocument text t
+      → Passes (faults_of jobs machines t) result → (fault : NamesFault) → IsFirstNamesFault jobs machines text fault → IsRefusedNames result fault
   first_is_fault text t (Ok names) document none fault h = elim h [
     | inl without ↦ without.none t document
     | inr some ↦
@@ -74,14 +74,14 @@ module _ (jobs machines : ℕ) where
 
   -- ---- the text is no document
 
-  pub refused_names : (text : List ℕ) (answered : NamesFault) → (answered ≢ Memory → IsNoDocument text answered) → (names : NameBook) → IsNamesText jobs machines text names → answered ≡ Memory
+  pub refused_names : (text : List ℕ) (answered : NamesFault) → (answered ≢ Memory → IsNoNamesDocument text answered) → (names : NameBook) → IsNamesText jobs machines text names → answered ≡ Memory
   refused_names text answered refused names h =
       elim (memory_or_not answered) [
         | inl memory ↦ memory
         | inr other ↦ absurd ((refused other).none h.table h.document)
       ]
 
-  pub refused_fault : (text : List ℕ) (answered : NamesFault) → (answered ≢ Memory → IsNoDocument text answered) → (fault : NamesFault) → IsFirstNamesFault jobs machines text fault → answered ≢ Memory → answered ≡ fault
+  pub refused_fault : (text : List ℕ) (answered : NamesFault) → (answered ≢ Memory → IsNoNamesDocument text answered) → (fault : NamesFault) → IsFirstNamesFault jobs machines text fault → answered ≢ Memory → answered ≡ fault
   refused_fault text answered refused fault h = λ other. elim h [
     | inl without ↦ (refused other).is ∙ sym without.is
     | inr some ↦ absurd ((refused other).none some.table some.document)

@@ -8,14 +8,14 @@ use Rattle.people_names.specs.NameBooks.{NameBook}
 use Rattle.people_names.specs.Documents.{IsFirstOf}
 
 -- the answer are these names, unless memory ran out
-abbrev pub IsRead : Result NameBook NamesFault → NameBook → Type 0
-IsRead (Ok answered) names = answered ≡ names
-IsRead (Err fault) names = fault ≡ Memory
+abbrev pub IsReadNames : Result NameBook NamesFault → NameBook → Type 0
+IsReadNames (Ok answered) names = answered ≡ names
+IsReadNames (Err fault) names = fault ≡ Memory
 
 -- the answer is this fault, unless memory ran out
-abbrev pub IsRefused : Result NameBook NamesFault → NamesFault → Type 0
-IsRefused (Ok answered) fault = ⊥
-IsRefused (Err answered) fault = answered ≢ Memory → answered ≡ fault
+abbrev pub IsRefusedNames : Result NameBook NamesFault → NamesFault → Type 0
+IsRefusedNames (Ok answered) fault = ⊥
+IsRefusedNames (Err answered) fault = answered ≢ Memory → answered ≡ fault
 
 -- a check that takes no memory, of which these are the faults, passes where there is none, and else answers the first
 abbrev pub PassesExactly : {A : Type 0} → List NamesFault → Result A NamesFault → Type 0

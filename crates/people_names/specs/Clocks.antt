@@ -9,12 +9,12 @@ abbrev pub is_digit_pair : List ℕ → ℕ → Bool
 is_digit_pair text place = is_digit (slice_index text place) && is_digit (slice_index text (place + 1))
 
 -- the number that they are
-abbrev pub pair_at : List ℕ → ℕ → ℕ
-pair_at text place = 10 * (slice_index text place - 48) + (slice_index text (place + 1) - 48)
+abbrev pub clock_number_at : List ℕ → ℕ → ℕ
+clock_number_at text place = 10 * (slice_index text place - 48) + (slice_index text (place + 1) - 48)
 
 -- two digits are at this place, of a number below the limit
 abbrev pub is_pair_below : List ℕ → ℕ → ℕ → Bool
-is_pair_below text place limit = is_digit_pair text place && nat_lt (pair_at text place) limit
+is_pair_below text place limit = is_digit_pair text place && nat_lt (clock_number_at text place) limit
 
 -- `HH:MM` is at the front
 abbrev pub is_hour_and_minute : List ℕ → Bool
@@ -30,10 +30,10 @@ is_second_text text = (length text == 8) && is_hour_and_minute text && (slice_in
 
 -- the minutes from midnight to `HH:MM`
 abbrev pub minutes_at : List ℕ → ℕ
-minutes_at text = 60 * pair_at text 0 + pair_at text 3
+minutes_at text = 60 * clock_number_at text 0 + clock_number_at text 3
 
 -- the clock that a text states
 abbrev pub clock_of : List ℕ → Option Clock
 clock_of text =
     if is_minute_text text then Some (Minutes (minutes_at text))
-    else (if is_second_text text then Some (Seconds (60 * minutes_at text + pair_at text 6)) else None)
+    else (if is_second_text text then Some (Seconds (60 * minutes_at text + clock_number_at text 6)) else None)

@@ -1,7 +1,7 @@
 //! What the clock says at moment 0.
 
 ghost use Rattle.std.specs.Prelude.{◌≡◌, ◌+◌, ◌<◌, ◌≤◌, length, decimal, IfSome, None, Some};
-ghost use Rattle.people_names.specs.Clocks.{is_digit_pair, pair_at, is_pair_below, is_hour_and_minute};
+ghost use Rattle.people_names.specs.Clocks.{is_digit_pair, clock_number_at, is_pair_below, is_hour_and_minute};
 ghost use Rattle.people_names.specs.Clocks.{is_minute_text, is_second_text, minutes_at, clock_of};
 
 /// What the clock says at moment 0, and how long a moment is.
@@ -64,7 +64,7 @@ fn is_digit_pair(text: &[u8], place: usize) -> bool
 /// The number of the two digits at this place.
 fn pair_at(text: &[u8], place: usize) -> u32
     requires { place + 1 < length text.now }
-    ensures value { result ≡ pair_at text.now place }
+    ensures value { result ≡ clock_number_at text.now place }
     ensures small { result < 2400 }
 {
     let tens = u32::from(text[place].saturating_sub(b'0'));

@@ -6,8 +6,8 @@ ghost use Rattle.toml.specs.{Data.get_member, View.view, View.table_view};
 ghost use Rattle.people_names.specs.{declared.names_fault.NamesFault.NamesFault, Keys.value_at, Keys.begin_in};
 ghost use Rattle.people_names.specs.declared.keys.NamesKey.{NamesKey};
 ghost use Rattle.people_names.specs.{NameBooks.NameBook, Lists.AreShort};
-ghost use Rattle.people_names.specs.Documents.{IsDocument, IsNoDocument, IsNamesText, IsFirstNamesFault};
-ghost use Rattle.people_names.specs.Answers.{IsRead, IsRefused, Passes, PassesExactly};
+ghost use Rattle.people_names.specs.Documents.{IsNamesDocument, IsNoNamesDocument, IsNamesText, IsFirstNamesFault};
+ghost use Rattle.people_names.specs.Answers.{IsReadNames, IsRefusedNames, Passes, PassesExactly};
 ghost use Rattle.people_names.specs.Reading.{names_at, clock_in, names_in};
 ghost use Rattle.people_names.specs.Faults.{list_faults, clock_faults, unless, value_faults, faults_of};
 
@@ -114,8 +114,8 @@ fn names_in(alloc: Global, table: &Table, jobs: usize, machines: usize) -> Resul
 
 /// The table of a text.
 fn table_of(alloc: Global, text: &[u8]) -> Result<Table, NamesFault>
-    ensures document { IfOk result (λ table. IsDocument text.now (table_view table)) }
-    ensures refused { IfErr result (λ fault. fault ≢ NamesFault.Memory → IsNoDocument text.now fault) }
+    ensures document { IfOk result (λ table. IsNamesDocument text.now (table_view table)) }
+    ensures refused { IfErr result (λ fault. fault ≢ NamesFault.Memory → IsNoNamesDocument text.now fault) }
 {
     let Ok(text) = std::str::from_utf8(text) else {
         return Err(NamesFault::NotToml);
@@ -135,11 +135,11 @@ pub fn read_names(
 ) -> Result<Names, NamesFault>
     // What is read are the text's names, and the text's names are read.
     ensures found { IfOk result (λ names. IsNamesText jobs machines text.now names) }
-    ensures only { (names : NameBook) → IsNamesText jobs machines text.now names → IsRead result names }
+    ensures only { (names : NameBook) → IsNamesText jobs machines text.now names → IsReadNames result names }
 
     // A fault is what is wrong first, and what is wrong first is the fault.
     ensures fault { IfErr result (λ fault. fault ≢ NamesFault.Memory → IsFirstNamesFault jobs machines text.now fault) }
-    ensures first { (fault : NamesFault) → IsFirstNamesFault jobs machines text.now fault → IsRefused result fault }
+    ensures first { (fault : NamesFault) → IsFirstNamesFault jobs machines text.now fault → IsRefusedNames result fault }
 {
     match table_of(alloc, text) {
         Ok(table) => names_in(alloc, &table, jobs, machines),

@@ -22,7 +22,7 @@ use Rattle.plan_verifier.proofs.Rests.{next_path}
 use Rattle.plan_seek.specs.Tasks.{with_order}
 use Rattle.plan_decide.specs.declared.aim.Objective.{Objective}
 use Rattle.plan_decide.specs.declared.aim.Objective.TheVariants.{Makespan, Leaving}
-use Rattle.plan_decide.specs.Cases.{Past, nothing, run_to, Case, KeepsPast, IsOutWithin, IsGood, HasValue, IsPlanOf, IsAccepted, is_waiting, bound_in, job_count, times_in}
+use Rattle.plan_decide.specs.Cases.{Past, nothing, run_to, Case, KeepsPast, IsOutWithin, IsGood, HasValue, IsPlanOf, IsAcceptedFromPast, is_waiting, bound_in, case_jobs, times_in}
 use Rattle.plan_decide.specs.Objectives.{IsLeastValue}
 
 -- what has happened has led to its cell by a plan with these times
@@ -56,7 +56,7 @@ module _ (p q : PlannedShop) (c : Cell) (same : times_of q ≡ times_of p) (soun
   -- by a plan with the same times a cell is the same
   pub carried_same : IsCarried p c q c
   carried_same = record {
-    job_count = sound.job_count ∙ sym (ap (λ (t : ShopTimes). length t.shop.routes) same);
+    case_jobs = sound.job_count ∙ sym (ap (λ (t : ShopTimes). length t.shop.routes) same);
     machine_count = sound.machine_count ∙ sym (ap (λ (t : ShopTimes). t.shop.machines) same);
     jobs_same = λ j inside. sym (ap (λ b. if b then job_in c j else awaited) (lt-ltb j (jobs p) (omega (arith, inside, ap (λ (t : ShopTimes). length t.shop.routes) same))));
     entries_same = λ m inside. refl;
@@ -114,10 +114,10 @@ module _ (p : PlannedShop) (c : Cell) (t : ℕ) where
       to_out p HasPathAhead shorter further shaped j (made c j) first here (record { nodes = next_node c j ∷ []; size = first; path = begun; long = omega arith })
 
 -- so no plan has the job out before
-pub bound_le : (t : Case) (p : PlannedShop) (j n : ℕ) → IsRooted t → IsPlanOf t p → j < job_count t → is_waiting (times_in t) t.past j ≡ true → IsOutWithin t.past p j n → bound_in (times_in t) t.past j ≤ n
+pub bound_le : (t : Case) (p : PlannedShop) (j n : ℕ) → IsRooted t → IsPlanOf t p → j < case_jobs t → is_waiting (times_in t) t.past j ≡ true → IsOutWithin t.past p j n → bound_in (times_in t) t.past j ≤ n
 bound_le t p j n rooted plan inside waits out = go t.past rooted plan.keeps waits out
   where
-    same_jobs : jobs p ≡ job_count t
+    same_jobs : jobs p ≡ case_jobs t
     same_jobs = ap (λ (s : ShopTimes). length s.shop.routes) plan.same
 
     here : j < jobs p
@@ -163,7 +163,7 @@ good_from (run_to base c present) p acyclic out = record {
 }
 
 -- a plan that is accepted is one of the case
-pub accepted_plan : (t : Case) (order : List (List ℕ)) → IsAccepted t.past (with_order t.task order) → IsPlanOf t (with_order t.task order)
+pub accepted_plan : (t : Case) (order : List (List ℕ)) → IsAcceptedFromPast t.past (with_order t.task order) → IsPlanOf t (with_order t.task order)
 accepted_plan t order accepted = record { shaped = accepted.shaped; same = refl; keeps = accepted.keeps }
 
 -- ---- the least values
@@ -176,7 +176,7 @@ least_makespan_least t least none is = λ order value accepted reached.
     omega (arith, found.2.long, out found.2.nodes found.2.size found.2.path)
 
 -- none has a job that isn't gone out before its bound
-pub bound_least : (t : Case) (objective : Objective) (j : ℕ) → IsRooted t → j < job_count t → is_waiting (times_in t) t.past j ≡ true → (objective ≡ Makespan) ⊎ (objective ≡ Leaving j) → IsLeastValue t objective (bound_in (times_in t) t.past j)
+pub bound_least : (t : Case) (objective : Objective) (j : ℕ) → IsRooted t → j < case_jobs t → is_waiting (times_in t) t.past j ≡ true → (objective ≡ Makespan) ⊎ (objective ≡ Leaving j) → IsLeastValue t objective (bound_in (times_in t) t.past j)
 bound_least t objective j rooted inside waits which = λ order value accepted reached. bound_le t (with_order t.task order) j value rooted (accepted_plan t order accepted) inside waits (go (with_order t.task order) value inside waits reached which)
   where
     go : (p : PlannedShop) (value : ℕ) → j < jobs p → is_waiting (times_of p) t.past j ≡ true → HasValue t.past objective p value → (objective ≡ Makespan) ⊎ (objective ≡ Leaving j) → IsOutWithin t.past p j value
@@ -184,7 +184,7 @@ bound_least t objective j rooted inside waits which = λ order value accepted re
     go p value here waiting reached (inr is) = leaving_out t.past p j value waiting (subst (λ (o : Objective). HasValue t.past o p value) is reached)
 
 -- and one that is gone left when it did
-pub gone_least : (t : Case) (base : PlannedShop) (c : Cell) (present : ℕ) (objective : Objective) (j : ℕ) → t.past ≡ run_to base c present → j < job_count t → is_waiting (times_in t) (run_to base c present) j ≡ false
+pub gone_least : (t : Case) (base : PlannedShop) (c : Cell) (present : ℕ) (objective : Objective) (j : ℕ) → t.past ≡ run_to base c present → j < case_jobs t → is_waiting (times_in t) (run_to base c present) j ≡ false
     → (objective ≡ Makespan) ⊎ (objective ≡ Leaving j) → IsLeastValue t objective (since c j)
 gone_least t base c present objective j past inside not which = λ order value accepted reached. go (with_order t.task order) value inside (gone_unless (with_order t.task order) base c present j not) (subst (λ (x : Past). HasValue x objective (with_order t.task order) value) past reached) which
   where

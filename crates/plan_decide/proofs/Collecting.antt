@@ -9,7 +9,7 @@ use Rattle.plan_decide.specs.declared.decided.Excluded.TheVariants.{Alone, Pair,
 use Rattle.plan_decide.specs.declared.listing.Listing.{Listing}
 use Rattle.plan_decide.specs.declared.standing.Standing.{Standing}
 use Rattle.plan_decide.specs.declared.standing.Standing.TheVariants.{Unpromised, Late, Doubt}
-use Rattle.plan_decide.specs.Cases.{Past, nothing, run_to, Case, job_count, budget_in}
+use Rattle.plan_decide.specs.Cases.{Past, nothing, run_to, Case, case_jobs, budget_in}
 use Rattle.plan_decide.specs.Promises.{IsPromised}
 use Rattle.plan_decide.specs.Excluding.{AreExcluded, HasPlanFor, AreNeeded, AreNeededUnless, IsNeverInTime, IsInDoubt, IsLateAlone, IsExclusion, ComesBefore, IsSettled, one_alone, other_alone, as_pair, together, IsApart, IsNotOf, HasUnlistedPair, AreExclusions, NoneIsAlone}
 use Rattle.plan_decide.specs.Listed.{standing_of, exclusions_of, AreTwoInDoubt, AreCounted, IsLeftBefore, IsSeveral, IsStanding, AreStandings, IsPairSettled, IsFrom, AreListedBefore, AreAllAlone, ArePairedTo}
@@ -280,7 +280,7 @@ module _ (t : Case) (standings : List Standing) where
   }
 
   -- no job is never in time where none is listed alone
-  pub none_alone : (n : ℕ) → n ≡ job_count t → AreStandings t n standings → AreAllAlone t standings n [] → NoneIsAlone t
+  pub none_alone : (n : ℕ) → n ≡ case_jobs t → AreStandings t n standings → AreAllAlone t standings n [] → NoneIsAlone t
   none_alone n all are known j never =
       let inside : j < n = omega (arith, all, never.promised.inside) in
       (let has = known.alone j inside (never_is_late t n standings are j inside never) in omega (arith, has.1))
@@ -462,7 +462,7 @@ module _ (t : Case) (standings : List Standing) where
       (λ has. doubt_not_late (standing_of standings i) one (All-contains (IsFrom standings) es (Alone i) stand has), λ has. doubt_not_late (standing_of standings j) other (All-contains (IsFrom standings) es (Alone j) stand has))
   pair_apart es stand (Several js fewer) is = absurd is
 
-  module _ (n : ℕ) (found : Listing) (all : n ≡ job_count t) (are : AreStandings t n standings) (known : ArePairedTo t standings n 0 found) where
+  module _ (n : ℕ) (found : Listing) (all : n ≡ case_jobs t) (are : AreStandings t n standings) (known : ArePairedTo t standings n 0 found) where
     -- what is known of each two jobs in doubt
     settled_all : found.pairs_open ≡ false → (i j : ℕ) → i < j → IsInDoubt t i → IsInDoubt t j → IsSettled t found.listed.items i j
     settled_all closed i j below one other =

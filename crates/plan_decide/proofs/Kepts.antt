@@ -21,11 +21,11 @@ use Rattle.plan_limits.specs.declared.asking.Answer.{Answer}
 use Rattle.plan_limits.specs.declared.asking.Answer.TheVariants.{Never, Orders, Open}
 use Rattle.plan_limits.specs.Stages.{stage_of}
 use Rattle.plan_limits.specs.Limits.{NoPlanKeepsFrom}
-use Rattle.plan_limits.specs.Answered.{OnNever}
+use Rattle.plan_limits.specs.Answered.{OnAnsweredNever}
 use Rattle.plan_decide.specs.declared.aim.Objective.{Objective}
 use Rattle.plan_decide.specs.declared.aim.Objective.TheVariants.{Makespan, Leaving}
 use Rattle.plan_decide.specs.declared.kept.Kept.TheVariants.{Rest}
-use Rattle.plan_decide.specs.Cases.{Past, nothing, run_to, KeepsPast, HasValue, is_waiting, job_count}
+use Rattle.plan_decide.specs.Cases.{Past, nothing, run_to, KeepsPast, HasValue, is_waiting, case_jobs}
 use Rattle.plan_decide.specs.Pasts.{HasNotBegun}
 use Rattle.plan_decide.specs.Excluding.{HasAcyclicPlan}
 use Rattle.plan_decide.specs.Objectives.{IsLeastValue}
@@ -89,14 +89,14 @@ reached_by s set = go s.is_whole set.whole
 pub asked_none : (s : AskedRest) (limits : List (Option ℕ)) → IsSet s → NoPlanKeepsFrom (stage_of s.plan s.cell s.present) limits → NoPlanKeeps (case_in s) limits
 asked_none s limits set none = none_keeps s.plan (past_in s) (freed s.free s.plan.plan.budget) limits s.cell s.present (reached_by s set) none
 
-pub never_if : {E P Q : Type 0} (r : Result Answer E) → (P → Q) → IfOk r (OnNever P) → IfOk r (OnNever Q)
+pub never_if : {E P Q : Type 0} (r : Result Answer E) → (P → Q) → IfOk r (OnAnsweredNever P) → IfOk r (OnAnsweredNever Q)
 never_if (Ok Never) follows says = follows says
 never_if (Ok (Orders orders)) follows says = tt
 never_if (Ok Open) follows says = tt
 never_if (Err e) follows says = tt
 
 -- a job that is gone left when it did
-pub gone_setting : (s : AskedRest) (objective : Objective) (j : ℕ) → j < job_count (case_in s) → is_waiting (times_of s.plan) (past_in s) j ≡ false → (objective ≡ Makespan) ⊎ (objective ≡ Leaving j) → IsLeastValue (case_in s) objective (since s.cell j)
+pub gone_setting : (s : AskedRest) (objective : Objective) (j : ℕ) → j < case_jobs (case_in s) → is_waiting (times_of s.plan) (past_in s) j ≡ false → (objective ≡ Makespan) ⊎ (objective ≡ Leaving j) → IsLeastValue (case_in s) objective (since s.cell j)
 gone_setting s objective j inside not which = go s.is_whole refl not
   where
     go : (b : Bool) → s.is_whole ≡ b → is_waiting (times_of s.plan) (past_by b s.plan s.cell s.present) j ≡ false → IsLeastValue (case_in s) objective (since s.cell j)

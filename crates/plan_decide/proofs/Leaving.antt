@@ -10,7 +10,7 @@ use Rattle.plan_limits.specs.Limits.{limit_of}
 use Rattle.plan_decide.specs.declared.asked.Asked.TheVariants.{All as AllAsked, Both}
 use Rattle.plan_decide.specs.declared.decided.Excluded.TheVariants.{Several}
 use Rattle.plan_decide.specs.declared.leaving_out.Left.{Left}
-use Rattle.plan_decide.specs.Cases.{Case, is_waiting, job_count, budget_in, times_in, with_budgets}
+use Rattle.plan_decide.specs.Cases.{Case, is_waiting, case_jobs, budget_in, times_in, with_budgets}
 use Rattle.plan_decide.specs.Promises.{IsPromised}
 use Rattle.plan_decide.specs.Excluding.{AreAllCyclic, AreExcluded, HasPlanFor, AreNeeded, AreNeededUnless, IsExclusion}
 use Rattle.plan_decide.specs.Decisions.{IsAcceptedWith}
@@ -78,18 +78,18 @@ limited_passed limits n js none known = record {
 }
 
 module _ (t : Case) where
-  fewer_promised : (limits : List (Option ℕ)) (k : ℕ) → k < job_count t → ArePromised t limits → ArePromised t (set limits k None)
+  fewer_promised : (limits : List (Option ℕ)) (k : ℕ) → k < case_jobs t → ArePromised t limits → ArePromised t (set limits k None)
   fewer_promised limits k inside are = record {
     count = length-set limits k None ∙ are.count;
     each = λ j n is. are.each j n (limit_was limits k j n (omega (arith, inside, are.count)) is).1;
   }
 
   -- the limits of all promises
-  pub all_promised : (limits : List (Option ℕ)) → AreLimits t AllAsked (job_count t) limits → ArePromised t limits
+  pub all_promised : (limits : List (Option ℕ)) → AreLimits t AllAsked (case_jobs t) limits → ArePromised t limits
   all_promised limits all = record {
     count = all.count;
     each = λ j n is.
-        (let inside : j < job_count t = omega (arith, limit_inside limits j n is, all.count) in
+        (let inside : j < case_jobs t = omega (arith, limit_inside limits j n is, all.count) in
         let promise = promise_is t j n (sym (all.each j inside) ∙ is) in
         (record { inside = inside; waits = promise.0; below = promise.1 }, promise.2));
   }
@@ -112,7 +112,7 @@ module _ (t : Case) where
   }
 
   -- so one that keeps all but one limit keeps them when another is left out too
-  can_keep_fewer : (limits : List (Option ℕ)) (j k : ℕ) → j < job_count t → k < job_count t → ArePromised t limits → CanKeep t (set limits j None) → CanKeep t (set (set limits k None) j None)
+  can_keep_fewer : (limits : List (Option ℕ)) (j k : ℕ) → j < case_jobs t → k < case_jobs t → ArePromised t limits → CanKeep t (set limits j None) → CanKeep t (set (set limits k None) j None)
   can_keep_fewer limits j k here there are can = can_keep_later _ _ later can
     where
       long : length (set limits k None) ≡ length limits
@@ -128,26 +128,26 @@ module _ (t : Case) where
       ]
 
   -- a plan that is accepted with the budgets of limits keeps them
-  pub accepted_keeps : (limits : List (Option ℕ)) (p : PlannedShop) → length limits ≡ job_count t → IsAcceptedWith (with_budgets t (map cap limits)) p → CanKeep t limits
+  pub accepted_keeps : (limits : List (Option ℕ)) (p : PlannedShop) → length limits ≡ case_jobs t → IsAcceptedWith (with_budgets t (map cap limits)) p → CanKeep t limits
   accepted_keeps limits p count is = record {
     plan = p;
     is = record { shaped = is.accepted.shaped; same = ap times_of is.same; keeps = is.accepted.keeps };
     acyclic = good_acyclic t.past p is.accepted.acceptable;
     out = λ j inside waits. (
-        let same : jobs p ≡ job_count t = ap jobs is.same in
+        let same : jobs p ≡ case_jobs t = ap jobs is.same in
         let budget : slice_index p.plan.budget j ≡ cap (limit_of limits j) = ap (λ q. slice_index q.plan.budget j) is.same ∙ get_or-map cap limits j None 0 (omega (arith, inside, same, count)) in
         let there : is_waiting (times_of p) t.past j ≡ true = ap (λ q. is_waiting (times_of q) t.past j) is.same ∙ waits in
         out_later t.past p j (slice_index p.plan.budget j) (cap (limit_of limits j)) (omega (arith, budget)) (good_out t.past p j is.accepted.acceptable inside there));
   }
 
   -- an accepted plan with the budgets of the jobs that have limits, which it keeps
-  pub plan_for : (limits : List (Option ℕ)) (is_meant : ℕ → Type 0) → length limits ≡ job_count t → ((i : ℕ) → cap (limit_of limits i) ≤ MAX_MOMENT)
-      → ((i : ℕ) → is_meant i → (i < job_count t) × (limit_of limits i ≡ Some (budget_in t i))) → ((i : ℕ) → i < job_count t → (is_meant i → ⊥) → limit_of limits i ≡ None) → CanKeep t limits → HasPlanFor t is_meant
+  pub plan_for : (limits : List (Option ℕ)) (is_meant : ℕ → Type 0) → length limits ≡ case_jobs t → ((i : ℕ) → cap (limit_of limits i) ≤ MAX_MOMENT)
+      → ((i : ℕ) → is_meant i → (i < case_jobs t) × (limit_of limits i ≡ Some (budget_in t i))) → ((i : ℕ) → i < case_jobs t → (is_meant i → ⊥) → limit_of limits i ≡ None) → CanKeep t limits → HasPlanFor t is_meant
   plan_for limits is_meant count few meant others can =
       let p = can.plan in
       let budgets = map cap limits in
-      let same : jobs p ≡ job_count t = ap (λ s. length s.shop.routes) can.is.same in
-      let budget : (i : ℕ) → i < job_count t → slice_index budgets i ≡ cap (limit_of limits i) = λ i inside. get_or-map cap limits i None 0 (omega (arith, inside, count)) in
+      let same : jobs p ≡ case_jobs t = ap (λ s. length s.shop.routes) can.is.same in
+      let budget : (i : ℕ) → i < case_jobs t → slice_index budgets i ≡ cap (limit_of limits i) = λ i inside. get_or-map cap limits i None 0 (omega (arith, inside, count)) in
       record {
         plan = rebudgeted p budgets;
         same = can.is.same;
@@ -161,17 +161,17 @@ module _ (t : Case) where
               (out_later t.past p i (cap (limit_of limits i)) (slice_index budgets i) (omega (arith, budget i (omega (arith, inside, same)))) (can.out i inside there))));
         };
         meant = λ i is. budget i (meant i is).0 ∙ ap cap (meant i is).1;
-        others = λ i inside not. (let here : i < job_count t = omega (arith, inside, same) in budget i here ∙ ap cap (others i here not));
+        others = λ i inside not. (let here : i < case_jobs t = omega (arith, inside, same) in budget i here ∙ ap cap (others i here not));
       }
 
   -- ---- two jobs
 
-  module _ (i j : ℕ) (limits : List (Option ℕ)) (all : AreLimits t (Both i j) (job_count t) limits) where
+  module _ (i j : ℕ) (limits : List (Option ℕ)) (all : AreLimits t (Both i j) (case_jobs t) limits) where
     both_limited : ArePromised t limits
     both_limited = record {
       count = all.count;
       each = λ k n is.
-          (let inside : k < job_count t = omega (arith, limit_inside limits k n is, all.count) in
+          (let inside : k < case_jobs t = omega (arith, limit_inside limits k n is, all.count) in
           let asked = limit_if ((k == i) || (k == j)) (promise_in t k) n (sym (all.each k inside) ∙ is) in
           let promise = promise_is t k n asked.1 in
           (record { inside = inside; waits = promise.0; below = promise.1 }, promise.2));
@@ -181,16 +181,16 @@ module _ (t : Case) where
     pub both_kept : IsPromised t i → IsPromised t j → CanKeep t limits → HasPlanFor t (Contains (i ∷ j ∷ []))
     both_kept one other can = plan_for limits (Contains (i ∷ j ∷ [])) all.count (cap-le limits both_limited) meant others can
       where
-        asked : (k : ℕ) → IsPromised t k → ((k == i) || (k == j)) ≡ true → (k < job_count t) × (limit_of limits k ≡ Some (budget_in t k))
+        asked : (k : ℕ) → IsPromised t k → ((k == i) || (k == j)) ≡ true → (k < case_jobs t) × (limit_of limits k ≡ Some (budget_in t k))
         asked k promised either = (promised.inside, all.each k promised.inside ∙ ap (λ (b : Bool). if b then promise_in t k else None) either ∙ promise_of t k promised)
 
-        meant : (k : ℕ) → Contains (i ∷ j ∷ []) k → (k < job_count t) × (limit_of limits k ≡ Some (budget_in t k))
+        meant : (k : ℕ) → Contains (i ∷ j ∷ []) k → (k < case_jobs t) × (limit_of limits k ≡ Some (budget_in t k))
         meant k has = elim (is_either i j k has) [
           | inl is ↦ asked k (subst (IsPromised t) (sym is) one) (ap (λ (b : Bool). b || (k == j)) (eq-eqb k i is))
           | inr is ↦ asked k (subst (IsPromised t) (sym is) other) (or_second (k == i) (k == j) (eq-eqb k j is))
         ]
 
-        others : (k : ℕ) → k < job_count t → (Contains (i ∷ j ∷ []) k → ⊥) → limit_of limits k ≡ None
+        others : (k : ℕ) → k < case_jobs t → (Contains (i ∷ j ∷ []) k → ⊥) → limit_of limits k ≡ None
         others k inside not = all.each k inside ∙ go (k == i) (k == j) refl refl
           where
             go : (a b : Bool) → (k == i) ≡ a → (k == j) ≡ b → (if a || b then promise_in t k else None) ≡ None
@@ -198,7 +198,7 @@ module _ (t : Case) where
             go false true is_one is_other = absurd (not (has_either i j k (inr (eqb-true k j is_other))))
             go false false is_one is_other = refl
 
-  pub left_out : (left more : Left) (k : ℕ) → k < job_count t → more.or_fewer ≡ left.or_fewer → more.limits.items ≡ set left.limits.items k None → NoPlanKeeps t more.limits.items
+  pub left_out : (left more : Left) (k : ℕ) → k < case_jobs t → more.or_fewer ≡ left.or_fewer → more.limits.items ≡ set left.limits.items k None → NoPlanKeeps t more.limits.items
       → IsLeft t left (k + 1) → IsLeft t more k
   left_out left more k inside fewer is none known = record {
     promised = subst (ArePromised t) (sym is) (fewer_promised left.limits.items k inside known.promised);
@@ -206,13 +206,13 @@ module _ (t : Case) where
     needed = λ closed j n from named. (
         let limits = left.limits.items in
         let was = limit_was limits k j n (omega (arith, inside, known.promised.count)) (sym (ap (λ l. limit_of l j) is) ∙ named) in
-        let here : j < job_count t = omega (arith, limit_inside limits j n was.1, known.promised.count) in
+        let here : j < case_jobs t = omega (arith, limit_inside limits j n was.1, known.promised.count) in
         subst (λ l. CanKeep t (set l j None)) (sym is) (can_keep_fewer limits j k here inside known.promised
         (known.needed (sym fewer ∙ closed) j n (omega (arith, from, was.0)) was.1)));
   }
 
   -- what is left before any job was asked about
-  pub left_begin : (left : Left) (n : ℕ) → job_count t ≤ n → ArePromised t left.limits.items → NoPlanKeeps t left.limits.items → IsLeft t left n
+  pub left_begin : (left : Left) (n : ℕ) → case_jobs t ≤ n → ArePromised t left.limits.items → NoPlanKeeps t left.limits.items → IsLeft t left n
   left_begin left n past promised none = record {
     promised = promised;
     none = none;
@@ -236,7 +236,7 @@ module _ (t : Case) where
     needed = λ closed. absurd (true≢false (sym fewer ∙ closed));
   }
 
-  module _ (limits : List (Option ℕ)) (n : ℕ) (js : List ℕ) (all : n ≡ job_count t) (are : ArePromised t limits) (named : AreLimited limits n js) where
+  module _ (limits : List (Option ℕ)) (n : ℕ) (js : List ℕ) (all : n ≡ case_jobs t) (are : ArePromised t limits) (named : AreLimited limits n js) where
     some_promised : (j : ℕ) → IsSome (limit_of limits j) → IsPromised t j
     some_promised j some = go (limit_of limits j) refl some
       where
@@ -265,7 +265,7 @@ module _ (t : Case) where
     all_excluded none p plan keeps = none p plan (record {
       acyclic = keeps.acyclic;
       out = λ j k inside waits is. (
-          let same : jobs p ≡ job_count t = ap (λ s. length s.shop.routes) plan.same in
+          let same : jobs p ≡ case_jobs t = ap (λ s. length s.shop.routes) plan.same in
           out_later t.past p j (budget_in t j) k (omega (arith, (are.each j k is).1)) (keeps.out j (named.complete j k (omega (arith, inside, same, all)) is)));
     })
 
@@ -273,13 +273,13 @@ module _ (t : Case) where
     plan_without : (j : ℕ) → Contains js j → CanKeep t (set limits j None) → HasPlanFor t (λ i. Contains js i × (i ≢ j))
     plan_without j has can = plan_for (set limits j None) (λ i. Contains js i × (i ≢ j)) (length-set limits j None ∙ are.count) (cap-le (set limits j None) (fewer_promised limits j here are)) meant others can
       where
-        here : j < job_count t
+        here : j < case_jobs t
         here = omega (arith, limit_inside limits j _ (named_limit j has), are.count)
 
-        meant : (i : ℕ) → Contains js i × (i ≢ j) → (i < job_count t) × (limit_of (set limits j None) i ≡ Some (budget_in t i))
+        meant : (i : ℕ) → Contains js i × (i ≢ j) → (i < case_jobs t) × (limit_of (set limits j None) i ≡ Some (budget_in t i))
         meant i (named_too, apart) = (omega (arith, limit_inside limits i _ (named_limit i named_too), are.count), limit_stays limits j i apart ∙ named_limit i named_too)
 
-        others : (i : ℕ) → i < job_count t → (Contains js i × (i ≢ j) → ⊥) → limit_of (set limits j None) i ≡ None
+        others : (i : ℕ) → i < case_jobs t → (Contains js i × (i ≢ j) → ⊥) → limit_of (set limits j None) i ≡ None
         others i inside not = elim (cases_eq i j) [
           | inl same ↦ ap (limit_of (set limits j None)) same ∙ limit_gone limits j (omega (arith, here, are.count))
           | inr apart ↦ limit_stays limits j i apart ∙ unnamed_limit i (λ named_too. not (named_too, apart))
@@ -290,7 +290,7 @@ module _ (t : Case) where
     none_left empty none p plan acyclic = none p plan (record {
       acyclic = acyclic;
       out = λ j k inside waits is. (
-          let same : jobs p ≡ job_count t = ap (λ s. length s.shop.routes) plan.same in
+          let same : jobs p ≡ case_jobs t = ap (λ s. length s.shop.routes) plan.same in
           let has = named.complete j k (omega (arith, inside, same, all)) is in
           absurd (omega (arith, empty, has.1)));
     })

@@ -11,7 +11,7 @@ use Rattle.plan_limits.proofs.Acceptance.{the_start_is_every_plan-holds}
 use Rattle.cell_tables.specs.{Kept.KeepsSoFar, Rests.IsReached}
 use Rattle.plan_decide.specs.declared.asked.Asked.{Asked}
 use Rattle.plan_decide.specs.declared.asked.Asked.TheVariants.{Nobody, Both}
-use Rattle.plan_decide.specs.Cases.{Past, nothing, run_to, Case, is_waiting, job_count, budget_in, times_in, with_budgets}
+use Rattle.plan_decide.specs.Cases.{Past, nothing, run_to, Case, is_waiting, case_jobs, budget_in, times_in, with_budgets}
 use Rattle.plan_decide.specs.Pasts.{case_of}
 use Rattle.plan_decide.specs.Promises.{IsPromised}
 use Rattle.plan_decide.specs.Excluding.{AreAllCyclic, AreExcluded}
@@ -69,13 +69,13 @@ none_keeps p (run_to base d t) budget limits c present (shaped, reached, of_it, 
 
 module _ (t : Case) (asked : Asked) where
   -- where no plan keeps the limits, none keeps what is asked for
-  pub impossible : (n : ℕ) (limits : List (Option ℕ)) → n ≡ job_count t → AreLimits t asked n limits → NoPlanKeeps t limits → IsImpossible t asked
+  pub impossible : (n : ℕ) (limits : List (Option ℕ)) → n ≡ case_jobs t → AreLimits t asked n limits → NoPlanKeeps t limits → IsImpossible t asked
   impossible n limits all are none p plan keeps = none p plan (record {
     acyclic = keeps.acyclic;
     out = λ j k inside waits is. keeps.out j k inside waits (sym (are.each j (omega (arith, inside, all, same_jobs))) ∙ is);
   })
     where
-      same_jobs : jobs p ≡ job_count t
+      same_jobs : jobs p ≡ case_jobs t
       same_jobs = ap (λ s. length s.shop.routes) plan.same
 
 -- where nobody is asked for and it is impossible, no plan is without a cycle

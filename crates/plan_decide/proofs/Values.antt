@@ -10,7 +10,7 @@ use Rattle.plan_decide.specs.declared.aim.Objective.TheVariants.{Makespan, Leavi
 use Rattle.plan_decide.specs.declared.decided.Within.{Within}
 use Rattle.plan_decide.specs.declared.halving.Best.{Best}
 use Rattle.plan_decide.specs.declared.halving.Halfway.{Halfway}
-use Rattle.plan_decide.specs.Cases.{Case, HasValue, IsAccepted, with_budget}
+use Rattle.plan_decide.specs.Cases.{Case, HasValue, IsAcceptedFromPast, with_budget}
 use Rattle.plan_decide.specs.Objectives.{IsLeastValue}
 use Rattle.plan_decide.specs.Decisions.{IsAcceptedWith, given_with}
 use Rattle.plan_decide.specs.Settings.{plan_of}
@@ -19,7 +19,7 @@ use Rattle.plan_decide.proofs.Budgets.{shaped_again, keeps_again, acyclic_again,
 use Rattle.plan_decide.proofs.Bounded.{good_acyclic, good_out, good_from}
 
 -- a plan that is accepted with an earlier budget of a job is accepted without a promise to it
-loosened : (t : Case) (j n : ℕ) (order : List (List ℕ)) → IsFree t (Leaving j) → IsAccepted t.past (with_order (with_budget t j n).task order) → IsAccepted t.past (with_order t.task order)
+loosened : (t : Case) (j n : ℕ) (order : List (List ℕ)) → IsFree t (Leaving j) → IsAcceptedFromPast t.past (with_order (with_budget t j n).task order) → IsAcceptedFromPast t.past (with_order t.task order)
 loosened t j n order free accepted = record {
   shaped = shaped_again p t.task.budget accepted.shaped count few;
   keeps = keeps_again t.past p t.task.budget accepted.keeps;
@@ -56,10 +56,10 @@ loosened t j n order free accepted = record {
 -- the best plan isn't below the moment below which none is
 found_apart : (t : Case) (objective : Objective) (best : Best) (n : ℕ) → IsFree t objective → IsFoundWith t objective best → IsLeastValue t objective n → n ≤ best.value
 found_apart t Makespan best n free found least =
-    least (plan_of best.plan).plan.order best.value (subst (IsAccepted t.past) found.plan.same found.plan.accepted) (subst (λ p. HasValue t.past Makespan p best.value) found.plan.same found.value)
+    least (plan_of best.plan).plan.order best.value (subst (IsAcceptedFromPast t.past) found.plan.same found.plan.accepted) (subst (λ p. HasValue t.past Makespan p best.value) found.plan.same found.value)
 found_apart t (Leaving j) best n free found least =
     let order = (plan_of best.plan).plan.order in
-    let accepted = subst (IsAccepted t.past) found.plan.same found.plan.accepted in
+    let accepted = subst (IsAcceptedFromPast t.past) found.plan.same found.plan.accepted in
     let value = subst (λ p. HasValue t.past (Leaving j) p best.value) found.plan.same found.value in
     least order best.value (loosened t j best.value order free accepted) (leaving_value_again t.past (with_order (with_budget t j best.value).task order) t.task.budget j best.value value)
 

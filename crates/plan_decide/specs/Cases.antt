@@ -73,8 +73,8 @@ bound_in t (run_to base c present) j = out_alone t j (made c j) (later_than pres
 
 module _ (t : Case) where
   -- the number of jobs
-  abbrev pub job_count : ℕ
-  job_count = length t.task.shop.routes
+  abbrev pub case_jobs : ℕ
+  case_jobs = length t.task.shop.routes
 
   -- the budget of job j
   abbrev pub budget_in : ℕ → ℕ
@@ -99,7 +99,7 @@ pub record IsPlanOf (t : Case) (p : PlannedShop) : Type 0 where
   pub keeps : KeepsPast t.past p
 
 -- the plan is accepted: it is well shaped, what has happened keeps it, and it is to be accepted
-pub record IsAccepted (past : Past) (p : PlannedShop) : Type 0 where
+pub record IsAcceptedFromPast (past : Past) (p : PlannedShop) : Type 0 where
   pub shaped : IsWellShaped p
   pub keeps : KeepsPast past p
   pub acceptable : IsGood past p

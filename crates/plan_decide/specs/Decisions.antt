@@ -12,7 +12,7 @@ use Rattle.plan_decide.specs.declared.decided.Decided.{Decided}
 use Rattle.plan_decide.specs.declared.decided.Decided.TheVariants.{Kept, Best, Never, Cyclic, Open}
 use Rattle.plan_decide.specs.declared.decided.Within.{Within}
 use Rattle.plan_decide.specs.declared.decided.Exclusions.{Exclusions}
-use Rattle.plan_decide.specs.Cases.{Case, IsAccepted, HasValue, with_budget}
+use Rattle.plan_decide.specs.Cases.{Case, IsAcceptedFromPast, HasValue, with_budget}
 use Rattle.plan_decide.specs.Promises.{asked_for, IsInRange}
 use Rattle.plan_decide.specs.Objectives.{IsLeastValue}
 use Rattle.plan_decide.specs.Excluding.{AreAllCyclic, AreExclusions, NoneIsAlone}
@@ -34,20 +34,20 @@ OnBest P Cyclic = Unit {0}
 OnBest P Open = Unit {0}
 
 -- where they can't be kept
-abbrev pub OnNever : (Exclusions → Type 0) → Decided → Type 0
-OnNever P (Kept plan) = Unit {0}
-OnNever P (Best plan within) = Unit {0}
-OnNever P (Never found) = P found
-OnNever P Cyclic = Unit {0}
-OnNever P Open = Unit {0}
+abbrev pub OnDecidedNever : (Exclusions → Type 0) → Decided → Type 0
+OnDecidedNever P (Kept plan) = Unit {0}
+OnDecidedNever P (Best plan within) = Unit {0}
+OnDecidedNever P (Never found) = P found
+OnDecidedNever P Cyclic = Unit {0}
+OnDecidedNever P Open = Unit {0}
 
 -- where no plan is without a cycle
-abbrev pub OnCyclic : Type 0 → Decided → Type 0
-OnCyclic P (Kept plan) = Unit {0}
-OnCyclic P (Best plan within) = Unit {0}
-OnCyclic P (Never found) = Unit {0}
-OnCyclic P Cyclic = P
-OnCyclic P Open = Unit {0}
+abbrev pub OnDecidedCyclic : Type 0 → Decided → Type 0
+OnDecidedCyclic P (Kept plan) = Unit {0}
+OnDecidedCyclic P (Best plan within) = Unit {0}
+OnDecidedCyclic P (Never found) = Unit {0}
+OnDecidedCyclic P Cyclic = P
+OnDecidedCyclic P Open = Unit {0}
 
 -- where it isn't decided
 abbrev pub OnOpen : Type 0 → Decided → Type 0
@@ -60,7 +60,7 @@ OnOpen P Open = P
 -- the plan has these numbers, and is accepted
 pub record IsAcceptedWith (t : Case) (p : PlannedShop) : Type 0 where
   pub same : p ≡ with_order t.task p.plan.order
-  pub accepted : IsAccepted t.past p
+  pub accepted : IsAcceptedFromPast t.past p
 
 -- all promises were asked for, and the plan keeps them
 pub record IsKept (t : Case) (aim : Aim) (p : PlannedShop) : Type 0 where
@@ -86,8 +86,8 @@ pub record IsBest (t : Case) (aim : Aim) (p : PlannedShop) (within : Within) : T
 pub record IsDecided (t : Case) (aim : Aim) (decided : Decided) : Type 0 where
   pub kept : OnKept (IsKept t aim) decided
   pub best : OnBest (IsBest t aim) decided
-  pub never : OnNever (AreExclusions (asked_for t aim)) decided
-  pub cyclic : OnCyclic (AreAllCyclic t) decided
+  pub never : OnDecidedNever (AreExclusions (asked_for t aim)) decided
+  pub cyclic : OnDecidedCyclic (AreAllCyclic t) decided
   pub undecided : OnOpen (NoneIsAlone (asked_for t aim)) decided
 
 -- why nothing is decided: the job isn't of the shop, or else out of memory

@@ -8,7 +8,7 @@ use Rattle.plan_bounds.specs.Bounds.{times_of}
 use Rattle.plan_decide.specs.declared.decided.Exclusions.{Exclusions}
 use Rattle.plan_decide.specs.declared.decided.Excluded.{Excluded}
 use Rattle.plan_decide.specs.declared.decided.Excluded.TheVariants.{Alone, Pair, Several}
-use Rattle.plan_decide.specs.Cases.{Past, nothing, run_to, Case, IsOutWithin, IsPlanOf, IsAccepted, bound_in, budget_in, times_in}
+use Rattle.plan_decide.specs.Cases.{Past, nothing, run_to, Case, IsOutWithin, IsPlanOf, IsAcceptedFromPast, bound_in, budget_in, times_in}
 use Rattle.plan_decide.specs.Promises.{IsPromised}
 
 -- the plan keeps the promises to these jobs: its graph has no cycle, and no path to the leaving of one of them is longer than its budget, whatever is of the others
@@ -34,7 +34,7 @@ pub record HasAcyclicPlan (t : Case) : Type 0 where
 pub record HasPlanFor (t : Case) (is_meant : ℕ → Type 0) : Type 0 where
   pub plan : PlannedShop
   pub same : times_of plan ≡ times_in t
-  pub accepted : IsAccepted t.past plan
+  pub accepted : IsAcceptedFromPast t.past plan
   pub meant : (j : ℕ) → is_meant j → budget plan j ≡ budget_in t j
   pub others : (j : ℕ) → j < jobs plan → (is_meant j → ⊥) → budget plan j ≡ MAX_MOMENT
 

@@ -9,7 +9,7 @@ use Rattle.plan_decide.specs.declared.halving.Best.{Best}
 use Rattle.plan_decide.specs.declared.halving.Halfway.{Halfway}
 use Rattle.plan_decide.specs.declared.halving.Looked.{Looked}
 use Rattle.plan_decide.specs.declared.halving.Looked.TheVariants.{Better, Never, Open}
-use Rattle.plan_decide.specs.Cases.{Case, HasValue, job_count, budget_in, with_budget}
+use Rattle.plan_decide.specs.Cases.{Case, HasValue, case_jobs, budget_in, with_budget}
 use Rattle.plan_decide.specs.Objectives.{IsLeastValue}
 use Rattle.plan_decide.specs.declared.kept.Kept.{Kept}
 use Rattle.plan_decide.specs.Settings.{plan_of, FitsPast}
@@ -18,7 +18,7 @@ use Rattle.plan_decide.specs.Decisions.{IsAcceptedWith, given_with}
 -- the job whose leaving is to be as early as it can be is of the shop, and has no promise
 abbrev pub IsFree : Case → Objective → Type 0
 IsFree t Makespan = Unit {0}
-IsFree t (Leaving j) = (j < job_count t) × (budget_in t j ≡ MAX_MOMENT)
+IsFree t (Leaving j) = (j < case_jobs t) × (budget_in t j ≡ MAX_MOMENT)
 
 -- an accepted plan with these orders and no promise to the job has it leave so
 pub record IsLeavingBy (t : Case) (job : ℕ) (orders : List (List ℕ)) (value : ℕ) : Type 0 where

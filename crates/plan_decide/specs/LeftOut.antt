@@ -7,7 +7,7 @@ use Rattle.plan_limits.specs.Limits.{limit_of}
 use Rattle.plan_decide.specs.declared.leaving_out.Left.{Left}
 use Rattle.plan_decide.specs.declared.leaving_out.Spared.{Spared}
 use Rattle.plan_decide.specs.declared.leaving_out.Spared.TheVariants.{LeftOut, Needed, Open}
-use Rattle.plan_decide.specs.Cases.{Case, IsOutWithin, IsPlanOf, is_waiting, job_count, budget_in, times_in}
+use Rattle.plan_decide.specs.Cases.{Case, IsOutWithin, IsPlanOf, is_waiting, case_jobs, budget_in, times_in}
 use Rattle.plan_decide.specs.Promises.{IsPromised}
 use Rattle.plan_decide.specs.Asking.{NoPlanKeeps}
 
@@ -26,7 +26,7 @@ pub record AreLimited (limits : List (Option ℕ)) (n : ℕ) (js : List ℕ) : T
 module _ (t : Case) where
   -- each limit is the budget of a promised job
   pub record ArePromised (limits : List (Option ℕ)) : Type 0 where
-    pub count : length limits ≡ job_count t
+    pub count : length limits ≡ case_jobs t
     pub each : (j n : ℕ) → limit_of limits j ≡ Some n → IsPromised t j × (n ≡ budget_in t j)
 
   -- such a plan that keeps the limits, and has each other job that isn't gone out by the greatest budget that a plan may have

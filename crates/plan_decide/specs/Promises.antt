@@ -5,12 +5,12 @@ use Rattle.plan_decide.specs.declared.aim.Aim.{Aim}
 use Rattle.plan_decide.specs.declared.aim.Aim.TheVariants.{Promises, Least}
 use Rattle.plan_decide.specs.declared.aim.Objective.{Objective}
 use Rattle.plan_decide.specs.declared.aim.Objective.TheVariants.{Makespan, Leaving}
-use Rattle.plan_decide.specs.Cases.{Case, is_waiting, job_count, budget_in, times_in, with_budget}
+use Rattle.plan_decide.specs.Cases.{Case, is_waiting, case_jobs, budget_in, times_in, with_budget}
 
 module _ (t : Case) where
   -- job j has a promise: it isn't gone, and its budget is below the greatest that a plan may have
   pub record IsPromised (j : ℕ) : Type 0 where
-    pub inside : j < job_count t
+    pub inside : j < case_jobs t
     pub waits : is_waiting (times_in t) t.past j ≡ true
     pub below : budget_in t j < MAX_MOMENT
 
@@ -21,11 +21,11 @@ module _ (t : Case) where
   asked_for (Least (Leaving j)) = with_budget t j MAX_MOMENT
 
   -- the job whose leaving is the objective, if one is, is of the shop
-  abbrev pub IsOfShop : Objective → Type 0
-  IsOfShop Makespan = Unit {0}
-  IsOfShop (Leaving j) = j < job_count t
+  abbrev pub IsObjectiveOfShop : Objective → Type 0
+  IsObjectiveOfShop Makespan = Unit {0}
+  IsObjectiveOfShop (Leaving j) = j < case_jobs t
 
   -- the job whose leaving is asked for, if one is, is of the shop
   abbrev pub IsInRange : Aim → Type 0
   IsInRange Promises = Unit {0}
-  IsInRange (Least objective) = IsOfShop objective
+  IsInRange (Least objective) = IsObjectiveOfShop objective

@@ -16,7 +16,7 @@ use Rattle.plan_decide.specs.declared.aim.Aim.TheVariants.{Promises, Least}
 use Rattle.plan_decide.specs.declared.aim.Objective.TheVariants.{Makespan, Leaving}
 use Rattle.plan_decide.specs.declared.kept.Kept.{Kept}
 use Rattle.plan_decide.specs.declared.kept.Kept.TheVariants.{Whole, Rest}
-use Rattle.plan_decide.specs.Cases.{Past, nothing, run_to, Case, IsAccepted, with_budgets}
+use Rattle.plan_decide.specs.Cases.{Past, nothing, run_to, Case, IsAcceptedFromPast, with_budgets}
 use Rattle.plan_decide.specs.Pasts.{case_of, HasNotBegun}
 
 -- the rest of a run of a plan, from a cell and a present moment on, whether that is a whole plan, and the job whose own promise isn't asked for
@@ -83,7 +83,7 @@ bound_ahead p c present j = out_alone (times_of p) j (made c j) (later_than pres
 -- this plan is accepted, and kept
 pub record IsKeptAs (past : Past) (p : PlannedShop) (kept : Kept) : Type 0 where
   pub plan : plan_of kept ≡ p
-  pub accepted : IsAccepted past p
+  pub accepted : IsAcceptedFromPast past p
   pub fits : FitsPast past kept
 
 -- what has happened keeps the plan too, what is left by it is accepted, and these are the moments of its nodes

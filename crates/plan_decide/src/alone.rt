@@ -2,7 +2,7 @@
 
 ghost use Rattle.std.specs.Prelude.{◌+◌, ◌<◌, IfOk, OnOk};
 ghost use Rattle.shop_base.specs.Plan.{jobs};
-ghost use Rattle.plan_decide.specs.Cases.{job_count};
+ghost use Rattle.plan_decide.specs.Cases.{case_jobs};
 ghost use Rattle.plan_decide.specs.Settings.{case_in};
 ghost use Rattle.plan_decide.specs.Listed.{AreAllAlone, AreStandings};
 
@@ -18,9 +18,9 @@ pub(crate) fn all_alone<P: Planned>(
     setting: &Setting<'_, P>,
     standings: &[Standing],
 ) -> Result<Vec<Excluded>, AllocError>
-    requires { let t = case_in setting.now in AreStandings t (job_count t) standings.now }
+    requires { let t = case_in setting.now in AreStandings t (case_jobs t) standings.now }
     ensures { let t = case_in setting.now in
-        IfOk result (λ listed. AreAllAlone t standings.now (job_count t) listed.items) }
+        IfOk result (λ listed. AreAllAlone t standings.now (case_jobs t) listed.items) }
 {
     let mut listed = Vec::new(alloc);
     for job in 0..setting.cell().job_count() {
@@ -37,7 +37,7 @@ fn add_alone<P: Planned>(
     listed: &mut Vec<Excluded>,
 ) -> Result<(), AllocError>
     requires job { job < jobs setting.now.plan }
-    requires standings { let t = case_in setting.now in AreStandings t (job_count t) standings.now }
+    requires standings { let t = case_in setting.now in AreStandings t (case_jobs t) standings.now }
     requires known { AreAllAlone (case_in setting.now) standings.now job listed.old.items }
     ensures { OnOk result (AreAllAlone (case_in setting.now) standings.now (job + 1) listed.new.items) }
 {

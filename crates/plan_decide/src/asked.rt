@@ -2,7 +2,7 @@
 
 ghost use Rattle.std.specs.Prelude.{◌≡◌, ◌<◌, IfOk};
 ghost use Rattle.shop_base.specs.Plan.{jobs};
-ghost use Rattle.plan_decide.specs.Cases.{job_count};
+ghost use Rattle.plan_decide.specs.Cases.{case_jobs};
 ghost use Rattle.plan_decide.specs.Asking.{promise_in, limit_asked, AreLimits};
 ghost use Rattle.plan_decide.specs.Settings.{case_in};
 
@@ -70,7 +70,7 @@ pub(crate) fn limits_for<P: Planned>(
     setting: &Setting<'_, P>,
     asked: Asked,
 ) -> Result<Vec<Option<Moment>>, AllocError>
-    ensures { let t = case_in setting.now in IfOk result (λ limits. AreLimits t asked (job_count t) limits.items) }
+    ensures { let t = case_in setting.now in IfOk result (λ limits. AreLimits t asked (case_jobs t) limits.items) }
 {
     let mut limits = Vec::new(alloc);
     for job in 0..setting.cell().job_count() {

@@ -2,7 +2,7 @@
 
 ghost use Rattle.std.specs.Prelude.{◌≡◌, IfOk, length};
 ghost use Rattle.shop_base.specs.Plan.{jobs};
-ghost use Rattle.plan_limits.specs.Answered.{OnNever};
+ghost use Rattle.plan_limits.specs.Answered.{OnAnsweredNever};
 ghost use Rattle.plan_decide.specs.Asking.{IsImpossible, NoPlanKeeps};
 ghost use Rattle.plan_decide.specs.Settings.{case_in};
 
@@ -69,7 +69,7 @@ impl<C: Choose, W: Watch> Asker<'_, C, W> {
         setting: &Setting<'_, P>,
         asked: Asked,
     ) -> Result<Answer, AllocError>
-        ensures { IfOk result (OnNever (IsImpossible (case_in setting.now) asked)) }
+        ensures { IfOk result (OnAnsweredNever (IsImpossible (case_in setting.now) asked)) }
     {
         let limits = limits_for(alloc, setting, asked)?;
         self.ask_limits(alloc, setting, &limits)
@@ -83,7 +83,7 @@ impl<C: Choose, W: Watch> Asker<'_, C, W> {
         limits: &[Option<Moment>],
     ) -> Result<Answer, AllocError>
         requires { length limits.now ≡ jobs setting.now.plan }
-        ensures { IfOk result (OnNever (NoPlanKeeps (case_in setting.now) limits.now)) }
+        ensures { IfOk result (OnAnsweredNever (NoPlanKeeps (case_in setting.now) limits.now)) }
     {
         self.search(alloc, setting, limits, self.choices)
     }
@@ -96,7 +96,7 @@ impl<C: Choose, W: Watch> Asker<'_, C, W> {
         limits: &[Option<Moment>],
     ) -> Result<Answer, AllocError>
         requires { length limits.now ≡ jobs setting.now.plan }
-        ensures { IfOk result (OnNever (NoPlanKeeps (case_in setting.now) limits.now)) }
+        ensures { IfOk result (OnAnsweredNever (NoPlanKeeps (case_in setting.now) limits.now)) }
     {
         self.search(alloc, setting, limits, self.choices.min(PAIR_CHOICES))
     }
@@ -110,7 +110,7 @@ impl<C: Choose, W: Watch> Asker<'_, C, W> {
         choices: u64,
     ) -> Result<Answer, AllocError>
         requires { length limits.now ≡ jobs setting.now.plan }
-        ensures { IfOk result (OnNever (NoPlanKeeps (case_in setting.now) limits.now)) }
+        ensures { IfOk result (OnAnsweredNever (NoPlanKeeps (case_in setting.now) limits.now)) }
     {
         self.limit = choices;
         self.made = 0;

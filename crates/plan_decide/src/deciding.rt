@@ -8,7 +8,7 @@ ghost use Rattle.plan_decide.specs.Cases.{Case};
 ghost use Rattle.plan_decide.specs.Pasts.{whole_case, HoldsFrom};
 ghost use Rattle.plan_decide.specs.Promises.{asked_for, IsInRange};
 ghost use Rattle.plan_decide.specs.Excluding.{HasCycleIfOpen, NoneIsAlone};
-ghost use Rattle.plan_decide.specs.Decisions.{IsDecided, IsDecideFault, OnNever};
+ghost use Rattle.plan_decide.specs.Decisions.{IsDecided, IsDecideFault, OnDecidedNever};
 ghost use Rattle.plan_decide.specs.Settings.{case_in};
 ghost use Rattle.plan_decide.specs.Found.{IsReady, IsFound, OnFoundNever};
 ghost use Rattle.plan_decide.specs.Halves.{IsFree, IsFoundWith};
@@ -66,7 +66,7 @@ pub fn decide<C: Choose, W: Watch>(
 ) -> Result<Decided, DecideFault>
     ensures in_range { OnOk result (IsInRange (whole_case shaped.now) aim) }
     ensures decided { IfOk result (IsDecided (whole_case shaped.now) aim) }
-    ensures given { IfOk result (OnNever (HasCycleIfOpen shaped.now)) }
+    ensures given { IfOk result (OnDecidedNever (HasCycleIfOpen shaped.now)) }
     ensures refused { IfErr result (IsDecideFault (whole_case shaped.now) aim) }
 {
     if !is_in_range(shaped, aim) {
@@ -100,7 +100,7 @@ pub fn decide_rest<P: Planned, C: Choose, W: Watch>(
     ensures in_range { OnOk result (IsInRange (whole_case rest.now.plan) aim) }
     ensures decided { let r = rest.now in
         IfOk result (λ decided. HoldsFrom r.plan r.cell r.present (λ t. IsDecided t aim decided)) }
-    ensures given { IfOk result (OnNever (HasCycleIfOpen rest.now.plan)) }
+    ensures given { IfOk result (OnDecidedNever (HasCycleIfOpen rest.now.plan)) }
     ensures refused { IfErr result (IsDecideFault (whole_case rest.now.plan) aim) }
 {
     let given = &rest.shaped().plan().order;
@@ -119,7 +119,7 @@ fn decide_from<P: Planned, C: Choose, W: Watch>(
     ensures in_range { OnOk result (IsInRange (whole_case rest.now.plan) aim) }
     ensures decided { let r = rest.now in
         IfOk result (λ decided. HoldsFrom r.plan r.cell r.present (λ t. IsDecided t aim decided)) }
-    ensures given { IfOk result (OnNever (HasCycleIfOpen rest.now.plan)) }
+    ensures given { IfOk result (OnDecidedNever (HasCycleIfOpen rest.now.plan)) }
     ensures refused { IfErr result (IsDecideFault (whole_case rest.now.plan) aim) }
 {
     // The plan is well shaped, by a clause of this call.
@@ -135,7 +135,7 @@ fn decide_from<P: Planned, C: Choose, W: Watch>(
 /// What is decided by what is found.
 fn decided_by(found: Found) -> Decided
     ensures decided { (t : Case) (aim : Aim) → IsFound (asked_for t aim) aim found → IsDecided t aim result }
-    ensures given { (p : PlannedShop) → OnFoundNever (HasCycleIfOpen p) found → OnNever (HasCycleIfOpen p) result }
+    ensures given { (p : PlannedShop) → OnFoundNever (HasCycleIfOpen p) found → OnDecidedNever (HasCycleIfOpen p) result }
 {
     match found {
         Found::Kept(kept) => Decided::Kept(kept.into_shaped()),

@@ -3,7 +3,7 @@
 ghost use Rattle.std.specs.Prelude.{◌≡◌, ◌+◌, ◌<◌, ◌≤◌, IfOk, OnOk, length, [], ◌∷◌};
 ghost use Rattle.shop_base.specs.Plan.{jobs};
 ghost use Rattle.plan_decide.specs.declared.standing.Standing.TheVariants.{Doubt};
-ghost use Rattle.plan_decide.specs.{Cases.job_count, Promises.IsPromised, Excluding.AreNeededUnless};
+ghost use Rattle.plan_decide.specs.{Cases.case_jobs, Promises.IsPromised, Excluding.AreNeededUnless};
 ghost use Rattle.plan_decide.specs.Settings.{case_in};
 ghost use Rattle.plan_decide.specs.Listed.{AreCounted, ArePairedTo, AreStandings, IsBoth, standing_of};
 
@@ -41,9 +41,9 @@ pub(crate) fn add_pairs<P: Planned, C: Choose, W: Watch>(
     standings: &[Standing],
     found: &mut Listing,
 ) -> Result<(), AllocError>
-    requires standings { let t = case_in setting.now in AreStandings t (job_count t) standings.now }
+    requires standings { let t = case_in setting.now in AreStandings t (case_jobs t) standings.now }
     requires found { ArePairedTo (case_in setting.now) standings.now 0 0 found.old }
-    ensures found { let t = case_in setting.now in OnOk result (ArePairedTo t standings.now (job_count t) 0 found.new) }
+    ensures found { let t = case_in setting.now in OnOk result (ArePairedTo t standings.now (case_jobs t) 0 found.new) }
     ensures more { OnOk result (length found.old.listed.items ≤ length found.new.listed.items) }
 {
     if doubtful_jobs(setting.cell().job_count(), standings) > PAIRED_JOBS {
@@ -88,7 +88,7 @@ fn add_pairs_of<P: Planned, C: Choose, W: Watch>(
     found: &mut Listing,
 ) -> Result<(), AllocError>
     requires one { one < jobs setting.now.plan }
-    requires standings { let t = case_in setting.now in AreStandings t (job_count t) standings.now }
+    requires standings { let t = case_in setting.now in AreStandings t (case_jobs t) standings.now }
     requires found { ArePairedTo (case_in setting.now) standings.now one 0 found.old }
     ensures found { OnOk result (ArePairedTo (case_in setting.now) standings.now (one + 1) 0 found.new) }
     ensures more { OnOk result (length found.old.listed.items ≤ length found.new.listed.items) }
@@ -114,7 +114,7 @@ fn add_pair<P: Planned, C: Choose, W: Watch>(
     found: &mut Listing,
 ) -> Result<(), AllocError>
     requires other { other < jobs setting.now.plan }
-    requires standings { let t = case_in setting.now in AreStandings t (job_count t) standings.now }
+    requires standings { let t = case_in setting.now in AreStandings t (case_jobs t) standings.now }
     requires ascending { one < other }
     requires doubt { standing_of standings.now one ≡ Doubt }
     requires found { ArePairedTo (case_in setting.now) standings.now one other found.old }

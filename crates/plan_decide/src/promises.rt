@@ -2,7 +2,7 @@
 
 ghost use Rattle.std.specs.Prelude.{◌≡◌, ◌≤◌, ◌++◌, IfOk, length, [], ◌∷◌};
 ghost use Rattle.plan_decide.specs.{Asking.NoPlanKeeps, Settings.case_in, LeftOut.ArePromised};
-ghost use Rattle.plan_decide.specs.Cases.{job_count};
+ghost use Rattle.plan_decide.specs.Cases.{case_jobs};
 ghost use Rattle.plan_decide.specs.Listed.{AreAllAlone, ArePairedTo, AreStandings, IsReply};
 
 use crate::alone::all_alone;
@@ -57,9 +57,9 @@ fn with_pairs<P: Planned, C: Choose, W: Watch>(
     standings: &[Standing],
     listed: Vec<Excluded>,
 ) -> Result<Listing, AllocError>
-    requires standings { let t = case_in setting.now in AreStandings t (job_count t) standings.now }
-    requires alone { let t = case_in setting.now in AreAllAlone t standings.now (job_count t) listed.items }
-    ensures found { let t = case_in setting.now in IfOk result (ArePairedTo t standings.now (job_count t) 0) }
+    requires standings { let t = case_in setting.now in AreStandings t (case_jobs t) standings.now }
+    requires alone { let t = case_in setting.now in AreAllAlone t standings.now (case_jobs t) listed.items }
+    ensures found { let t = case_in setting.now in IfOk result (ArePairedTo t standings.now (case_jobs t) 0) }
     ensures more { IfOk result (λ found. length listed.items ≤ length found.listed.items) }
 {
     let mut found = Listing {
@@ -77,8 +77,8 @@ fn ask_promises<P: Planned, C: Choose, W: Watch>(
     asker: &mut Asker<'_, C, W>,
     standings: &[Standing],
 ) -> Result<Reply, AllocError>
-    requires standings { let t = case_in setting.now in AreStandings t (job_count t) standings.now }
-    requires none { let t = case_in setting.now in AreAllAlone t standings.now (job_count t) [] }
+    requires standings { let t = case_in setting.now in AreStandings t (case_jobs t) standings.now }
+    requires none { let t = case_in setting.now in AreAllAlone t standings.now (case_jobs t) [] }
     ensures { IfOk result (IsReply (case_in setting.now)) }
 {
     let limits = limits_for(alloc, setting, Asked::All)?;
@@ -99,8 +99,8 @@ fn exclusions<P: Planned, C: Choose, W: Watch>(
 ) -> Result<Reply, AllocError>
     requires promised { ArePromised (case_in setting.now) limits.items }
     requires none { NoPlanKeeps (case_in setting.now) limits.items }
-    requires standings { let t = case_in setting.now in AreStandings t (job_count t) standings.now }
-    requires none_alone { let t = case_in setting.now in AreAllAlone t standings.now (job_count t) [] }
+    requires standings { let t = case_in setting.now in AreStandings t (case_jobs t) standings.now }
+    requires none_alone { let t = case_in setting.now in AreAllAlone t standings.now (case_jobs t) [] }
     ensures { IfOk result (IsReply (case_in setting.now)) }
 {
     let found = with_pairs(alloc, setting, asker, standings, Vec::new(alloc))?;

@@ -2,7 +2,7 @@
 
 ghost use Rattle.std.specs.Prelude.{◌≡◌, ◌<◌, IfOk};
 ghost use Rattle.shop_base.specs.Plan.{jobs};
-ghost use Rattle.plan_decide.specs.Cases.{job_count};
+ghost use Rattle.plan_decide.specs.Cases.{case_jobs};
 ghost use Rattle.plan_decide.specs.Settings.{case_in};
 ghost use Rattle.plan_decide.specs.Excluding.{IsInDoubt};
 ghost use Rattle.plan_decide.specs.Listed.{AreStandings, IsStanding, standing_of};
@@ -32,7 +32,7 @@ pub(crate) fn standings<P: Planned, C: Choose, W: Watch>(
     setting: &Setting<'_, P>,
     asker: &mut Asker<'_, C, W>,
 ) -> Result<Vec<Standing>, AllocError>
-    ensures { let t = case_in setting.now in IfOk result (λ found. AreStandings t (job_count t) found.items) }
+    ensures { let t = case_in setting.now in IfOk result (λ found. AreStandings t (case_jobs t) found.items) }
 {
     let mut found = Vec::new(alloc);
     for job in 0..setting.cell().job_count() {

@@ -11,7 +11,7 @@ use Rattle.plan_verifier.specs.declared.node_bound.Hold.TheVariants.{Awaited, Wo
 use Rattle.plan_verifier.specs.Held.{IsHeldBy, awaited, arrived, worked, done, cleaned, BeginHeldUp, later_than, overdue_at, IsHoldBound, IsBoundOf}
 use Rattle.plan_verifier.proofs.{Tables.{later_is, later_above, later_other}, Acceptable.leaving_node, GoingOn.leaving_ahead}
 use Rattle.plan_verifier.proofs.{Holding.{hold_up, free_passed}, PathsAhead.along_greatest}
-use Rattle.plan_explain.specs.{Arcs.{time_of, arc_kind}, Chains.{AreAlong, length_from, IsLongestTo, IsLongest}}
+use Rattle.plan_explain.specs.{Arcs.{time_of, arc_kind}, Chains.{AreAlong, length_from, IsLongestAheadTo, IsLongest}}
 use Rattle.plan_explain.proofs.ArcFacts.{kind_longest, last_from, last_more, along_more, length_more, length_rises}
 
 -- what a path ahead to v of length n is, from its first node on: along the longest arcs it is no shorter, and any length with which a path ahead begins there leads to such a path
@@ -110,7 +110,7 @@ module _ (p : PlannedShop) (c : Cell) (t : ℕ) where
 
 -- ---- a longest path ahead
 
-module _ (p : PlannedShop) (c : Cell) (t : ℕ) (first : Node) (rest : List Node) (last : Node) (size : ℕ) (is : IsLongestTo p c t (first ∷ rest) last size) where
+module _ (p : PlannedShop) (c : Cell) (t : ℕ) (first : Node) (rest : List Node) (last : Node) (size : ℕ) (is : IsLongestAheadTo p c t (first ∷ rest) last size) where
   pub led : IsLedAhead p c t first rest last size
   led = ahead_led p c t (first ∷ rest) last size is.path
 

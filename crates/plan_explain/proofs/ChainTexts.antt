@@ -11,16 +11,16 @@ use Rattle.plan_verifier.specs.RestVerdicts.{IsAcceptedAhead}
 use Rattle.plan_verifier.proofs.GoingOn.{leavings_ahead}
 use Rattle.plan_explain.specs.{Added.Adds, Chains.{reached_lines, IsLongest, IsChainOrNone, AreChainLines}}
 use Rattle.plan_explain.specs.{ChainsFound.{AreLinesOf, IsFound}, Explained.{IsChainTo, IsChainToLast, AreMomentLines}}
-use Rattle.plan_explain.specs.{FirstLines.{IsLineByTimes, IsFirstLine}, Holds.bound_line}
+use Rattle.plan_explain.specs.{FirstLines.{IsLineByTimes, IsFirstLine}, Holds.node_bound_line}
 use Rattle.plan_explain.proofs.AheadPaths.{leaving_chain}
 
 -- the lines of a chain are that of its first node and those of the others
 pub chain_parts : {T E : Type 0} (names : NameBook) (p : PlannedShop) (c : Cell) (t : ℕ) (first : Node) (rest : List Node) (b : NodeBound) (r : Result T E) (old mid new : List ℕ) → IsBoundOf p c t first b
-    → mid ≡ old ++ bound_line names p.shop first b → OnOk r (new ≡ mid ++ reached_lines names p b.moment first rest) → OnOk r (Adds (AreChainLines names p c t (first ∷ rest)) old new)
+    → mid ≡ old ++ node_bound_line names p.shop first b → OnOk r (new ≡ mid ++ reached_lines names p b.moment first rest) → OnOk r (Adds (AreChainLines names p c t (first ∷ rest)) old new)
 chain_parts names p c t first rest b (Ok x) old mid new is one two = (
-  bound_line names p.shop first b ++ reached_lines names p b.moment first rest,
+  node_bound_line names p.shop first b ++ reached_lines names p b.moment first rest,
   (b, is, refl),
-  two ∙ ap (λ l. l ++ reached_lines names p b.moment first rest) one ∙ append_assoc old (bound_line names p.shop first b) (reached_lines names p b.moment first rest),
+  two ∙ ap (λ l. l ++ reached_lines names p b.moment first rest) one ∙ append_assoc old (node_bound_line names p.shop first b) (reached_lines names p b.moment first rest),
 )
 chain_parts names p c t first rest b (Err e) old mid new is one two = tt
 

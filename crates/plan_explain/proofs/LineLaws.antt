@@ -9,8 +9,8 @@ use Rattle.plan_explain.specs.Labels.{label_of}
 use Rattle.plan_verifier.specs.{declared.verdict.Judged.Judged, declared.verdict.Judged.TheVariants.{Accepted, Refused}}
 use Rattle.plan_verifier.specs.Leavings.{AreLeavingsAhead, IsLastLeaving}
 use Rattle.plan_explain.specs.FirstLines.{accepted_line, moments_below, IsAcceptedFirstLine, IsFirstLine}
-use Rattle.plan_explain.specs.{declared.arcs.ArcKind.TheVariants.Blocking, Arcs.arc_kind, Cycles.{arc_line, arc_lines, cycle_lines}, Holds.bound_line}
-use Rattle.plan_explain.specs.Chains.{reached_at, length_from, reached_line, reached_lines, IsLongestTo, AreChainLines}
+use Rattle.plan_explain.specs.{declared.arcs.ArcKind.TheVariants.Blocking, Arcs.arc_kind, Cycles.{arc_line, arc_lines, cycle_lines}, Holds.node_bound_line}
+use Rattle.plan_explain.specs.Chains.{reached_at, length_from, reached_line, reached_lines, IsLongestAheadTo, AreChainLines}
 use Rattle.plan_explain.specs.LineLaws.{AreExactArcs, IsBoundLine, IsLastLine}
 use Rattle.plan_explain.proofs.{Moments.moments_same, AheadPaths.{led, bound_length}}
 use Rattle.plan_explain.proofs.ArcFacts.{next_arc, own_kind, blocking_kind, kind_longest, longest_time, last_from}
@@ -42,11 +42,11 @@ module _ (names : NameBook) (p : PlannedShop) where
       ap (λ l. line ++ l) (lines_behind (reached_at p t u w) w ws v vs) ∙ sym (append_assoc line _ _)
 
 module _ (names : NameBook) (p : PlannedShop) (c : Cell) (t : ℕ) (sound : IsSound p c) where
-  pub each_line : (path nodes : List Node) (u v : Node) (n d : ℕ) (lines : List ℕ) → IsLongestTo p c t path u n → IsLongestArc p u v d → AreChainLines names p c t (path ++ v ∷ nodes) lines
+  pub each_line : (path nodes : List Node) (u v : Node) (n d : ℕ) (lines : List ℕ) → IsLongestAheadTo p c t path u n → IsLongestArc p u v d → AreChainLines names p c t (path ++ v ∷ nodes) lines
       → (front : List ℕ) × AreChainLines names p c t path front × (lines ≡ front ++ (reached_line names (n + d) v (arc_kind p u v) ++ reached_lines names p (n + d) v nodes))
   each_line [] nodes u v n d lines is arc are = absurd is.begins
   each_line (w ∷ ws) nodes u v n d lines is arc (b, bound, written) =
-      let first = bound_line names p.shop w b in
+      let first = node_bound_line names p.shop w b in
       let ends = (led p c t w ws u n is).ends in
       let size = bound_length p c t w ws u n is b sound bound in (
         first ++ reached_lines names p b.moment w ws,
@@ -68,21 +68,21 @@ module _ (names : NameBook) (p : PlannedShop) (c : Cell) (t : ℕ) (sound : IsSo
       let (front, nodes, u, are, written) = reached_last (reached_at p m w x) x y ys in
       (line ++ front, w ∷ nodes, u, ap (λ (l : List Node). w ∷ l) are, ap (λ l. line ++ l) written ∙ sym (append_assoc line front _))
 
-  pub last_line : (nodes : List Node) (v : Node) (n : ℕ) (lines : List ℕ) → IsLongestTo p c t nodes v n → AreChainLines names p c t nodes lines
+  pub last_line : (nodes : List Node) (v : Node) (n : ℕ) (lines : List ℕ) → IsLongestAheadTo p c t nodes v n → AreChainLines names p c t nodes lines
       → (front last : List ℕ) × (lines ≡ front ++ last) × IsLastLine names p c t nodes v n last
   last_line [] v n lines is are = absurd is.begins
   last_line (w ∷ []) v n lines is (b, bound, written) =
       let ends : w ≡ v = (led p c t w [] v n is).ends in
       let size : b.moment ≡ n = bound_length p c t w [] v n is b sound bound in (
         [],
-        bound_line names p.shop w b,
+        node_bound_line names p.shop w b,
         written ∙ append-nil _,
-        inr (ap (λ (x : Node). x ∷ []) ends, subst (λ (x : Node). IsBoundLine names p c t x n (bound_line names p.shop w b)) ends (b, bound, size, refl)),
+        inr (ap (λ (x : Node). x ∷ []) ends, subst (λ (x : Node). IsBoundLine names p c t x n (node_bound_line names p.shop w b)) ends (b, bound, size, refl)),
       )
   last_line (w ∷ x ∷ xs) v n lines is (b, bound, written) =
       let ends : last_from x xs ≡ v = (led p c t w (x ∷ xs) v n is).ends in
       let (front, nodes, u, are, lasts) = reached_last b.moment w x xs in
-      let first = bound_line names p.shop w b in (
+      let first = node_bound_line names p.shop w b in (
         first ++ front,
         reached_line names n v (arc_kind p u v),
         written

@@ -8,9 +8,9 @@ use Rattle.plan_explain.specs.declared.arcs.ArcKind.{ArcKind}
 use Rattle.plan_explain.specs.declared.arcs.ArcKind.TheVariants.{Job, Blocking}
 
 -- the words one after another, and what is behind them
-abbrev pub before : List (List ℕ) → List ℕ → List ℕ
-before [] rest = rest
-before (word ∷ words) rest = word ++ before words rest
+abbrev pub words_and : List (List ℕ) → List ℕ → List ℕ
+words_and [] rest = rest
+words_and (word ∷ words) rest = word ++ words_and words rest
 
 -- how long the arc is
 abbrev pub time_of : ArcKind → ℕ

@@ -3,7 +3,7 @@ use Rattle.std.specs.Prelude.{◌≡◌, ℕ, ◌+◌, ◌^◌, ◌<◌, ◌≤�
 use Rattle.shop_base.specs.{declared.node.Node.Node, NodeText.node_text, Plan.PlannedShop, Cell.Cell, Graph.HasArc, Ahead.PathAhead}
 use Rattle.people_names.specs.{NameBooks.NameBook, Words.moment_word}
 use Rattle.plan_verifier.specs.{Held.BeginHeldUp, Held.IsBoundOf, declared.node_bound.NodeBound.NodeBound}
-use Rattle.plan_explain.specs.{declared.arcs.ArcKind.ArcKind, Arcs.before, Arcs.time_of, Arcs.arc_words, Arcs.arc_kind, Holds.bound_line}
+use Rattle.plan_explain.specs.{declared.arcs.ArcKind.ArcKind, Arcs.words_and, Arcs.time_of, Arcs.arc_words, Arcs.arc_kind, Holds.node_bound_line}
 
 -- when v is reached over the arc from u, which is reached at moment t
 abbrev pub reached_at : PlannedShop → ℕ → Node → Node → ℕ
@@ -22,7 +22,7 @@ AreAlong p u (v ∷ vs) = HasArc p u v × AreAlong p v vs
 module _ (names : NameBook) where
   -- `T B WORDS`, of a node that is reached at moment t over the arc
   abbrev pub reached_line : ℕ → Node → ArcKind → List ℕ
-  reached_line t v arc = before (moment_word names t ∷ codes " " ∷ node_text v ∷ codes " " ∷ []) (before (arc_words names arc) (codes "\n"))
+  reached_line t v arc = words_and (moment_word names t ∷ codes " " ∷ node_text v ∷ codes " " ∷ []) (words_and (arc_words names arc) (codes "\n"))
 
   -- the lines of the nodes along arcs from u, which is reached at moment t
   abbrev pub reached_lines : PlannedShop → ℕ → Node → List Node → List ℕ
@@ -31,7 +31,7 @@ module _ (names : NameBook) where
 
 module _ (p : PlannedShop) (c : Cell) (t : ℕ) where
   -- along these nodes leads a path ahead to v of length n, the longest one, from a node that is held up
-  pub record IsLongestTo (nodes : List Node) (v : Node) (n : ℕ) : Type 0 where
+  pub record IsLongestAheadTo (nodes : List Node) (v : Node) (n : ℕ) : Type 0 where
     pub path : PathAhead p c t nodes v n
     pub begins : BeginHeldUp p c nodes
     pub greatest : (w : Node) (k : ℕ) → PathAhead p c t nodes w k → k ≤ n
@@ -40,7 +40,7 @@ module _ (p : PlannedShop) (c : Cell) (t : ℕ) where
   pub record IsLongest (nodes : List Node) : Type 0 where
     pub last : Node
     pub size : ℕ
-    pub is : IsLongestTo nodes last size
+    pub is : IsLongestAheadTo nodes last size
     pub small : size < 2 ^ 64
 
   -- there are no nodes, or they are such a path
@@ -51,4 +51,4 @@ module _ (p : PlannedShop) (c : Cell) (t : ℕ) where
 -- the lines of a chain: what its first node waits for, and each further node, with the length of the path up to it
 abbrev pub AreChainLines : NameBook → PlannedShop → Cell → ℕ → List Node → List ℕ → Type 0
 AreChainLines names p c t [] lines = lines ≡ []
-AreChainLines names p c t (u ∷ us) lines = (bound : NodeBound) × IsBoundOf p c t u bound × (lines ≡ bound_line names p.shop u bound ++ reached_lines names p bound.moment u us)
+AreChainLines names p c t (u ∷ us) lines = (bound : NodeBound) × IsBoundOf p c t u bound × (lines ≡ node_bound_line names p.shop u bound ++ reached_lines names p bound.moment u us)

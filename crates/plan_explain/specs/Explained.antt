@@ -6,7 +6,7 @@ use Rattle.plan_verifier.specs.declared.verdict.Judged.{Judged}
 use Rattle.plan_verifier.specs.declared.verdict.Judged.TheVariants.{Accepted, Refused}
 use Rattle.plan_verifier.specs.{declared.verdict.Why.TheVariants.Cycle, declared.verdict.Why.TheVariants.Late}
 use Rattle.plan_verifier.specs.{Leavings.AreLeavingsAhead, Leavings.LeavesLast}
-use Rattle.plan_explain.specs.{FirstLines.IsFirstLine, Leavings.job_lines, Cycles.cycle_lines, Chains.AreChainLines, Parts.AreBoth}
+use Rattle.plan_explain.specs.{FirstLines.IsFirstLine, Leavings.leaves_lines, Cycles.cycle_lines, Chains.AreChainLines, Parts.AreBoth}
 
 module _ (p : PlannedShop) (c : Cell) (t : ℕ) where
   -- along the nodes leads a longest path ahead to the leaving of job j; there are none where it is gone
@@ -29,7 +29,7 @@ module _ (names : NameBook) (p : PlannedShop) (c : Cell) (t : ℕ) where
     pub leavings : AreLeavingsAhead p c t leaves
     pub chain : List Node
     pub is : Is leaves chain
-    pub are : AreBoth (λ jobs. jobs ≡ job_lines names p c leaves) (AreChainLines names p c t chain) lines
+    pub are : AreBoth (λ jobs. jobs ≡ leaves_lines names p c leaves) (AreChainLines names p c t chain) lines
 
   -- the lines behind the first one of a verdict: the arcs of the cycle; or the leavings, and the arcs of a chain: the one that is asked for, else of what is accepted that to the last, of a late one that which the first line gives
   abbrev pub AreLinesBehind : Option ℕ → Judged → List ℕ → Type 0

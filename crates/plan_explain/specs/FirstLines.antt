@@ -32,9 +32,9 @@ abbrev pub refused_late_line : ℕ → ℕ → List Node → List ℕ
 refused_late_line job leaves chain = codes "refused late " ++ decimal job ++ codes " " ++ decimal leaves ++ node_words chain ++ codes "\n"
 
 -- the line of a refusal
-abbrev pub refused_line : Why → List ℕ
-refused_line (Cycle nodes) = cycle_line nodes.items
-refused_line (Late job leaves chain times) = refused_late_line job leaves chain.items
+abbrev pub reason_line : Why → List ℕ
+reason_line (Cycle nodes) = cycle_line nodes.items
+reason_line (Late job leaves chain times) = refused_late_line job leaves chain.items
 
 -- the moments of the first n jobs
 abbrev pub moments_below : (ℕ → ℕ) → ℕ → List ℕ
@@ -48,7 +48,7 @@ IsAcceptedText p leaves line = (n : ℕ) × IsLastLeaving p leaves n × (line �
 -- the line of a verdict, by its earliest moments or its evidence
 abbrev pub IsLineByTimes : PlannedShop → Judged → List ℕ → Type 0
 IsLineByTimes p (Accepted times) line = IsAcceptedText p (leaves_in p times) line
-IsLineByTimes p (Refused why) line = line ≡ refused_line why
+IsLineByTimes p (Refused why) line = line ≡ reason_line why
 
 -- the line gives the makespan and the leavings of the rest
 pub record IsAcceptedFirstLine (p : PlannedShop) (c : Cell) (t : ℕ) (line : List ℕ) : Type 0 where
@@ -59,4 +59,4 @@ pub record IsAcceptedFirstLine (p : PlannedShop) (c : Cell) (t : ℕ) (line : Li
 -- the first line of a verdict
 abbrev pub IsFirstLine : PlannedShop → Cell → ℕ → Judged → List ℕ → Type 0
 IsFirstLine p c t (Accepted times) line = IsAcceptedFirstLine p c t line
-IsFirstLine p c t (Refused why) line = line ≡ refused_line why
+IsFirstLine p c t (Refused why) line = line ≡ reason_line why

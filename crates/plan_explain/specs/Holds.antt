@@ -3,7 +3,7 @@ use Rattle.std.specs.Prelude.{ℕ, ◌-◌, Option, None, Some, List, [], ◌∷
 use Rattle.shop_base.specs.{declared.node.Node.Node, NodeText.node_text, Shop.JobShop}
 use Rattle.people_names.specs.{NameBooks.NameBook, Words.job_word, Words.machine_word, Words.moment_word}
 use Rattle.plan_explain.specs.Labels.{label_of, label_word}
-use Rattle.plan_explain.specs.Arcs.{before}
+use Rattle.plan_explain.specs.Arcs.{words_and}
 use Rattle.plan_verifier.specs.declared.node_bound.Hold.{Hold}
 use Rattle.plan_verifier.specs.declared.node_bound.Hold.TheVariants.{Awaited, Arrived, Worked, Done, Cleaned}
 use Rattle.plan_verifier.specs.declared.node_bound.NodeBound.{NodeBound}
@@ -19,11 +19,11 @@ hold_words names shop v (Cleaned machine from clean) =
     codes "machine " ∷ machine_word names machine ∷ codes " cleaned since " ∷ moment_word names from ∷ codes " for " ∷ decimal clean ∷ []
 
 -- ` overdue since D`, where it was due before the present moment
-abbrev pub overdue_words : NameBook → Option ℕ → List ℕ
-overdue_words names None = []
-overdue_words names (Some due) = codes " overdue since " ++ moment_word names due
+abbrev pub overdue_since_words : NameBook → Option ℕ → List ℕ
+overdue_since_words names None = []
+overdue_since_words names (Some due) = codes " overdue since " ++ moment_word names due
 
 -- `T B WORDS`, of a node with this bound
-abbrev pub bound_line : NameBook → JobShop → Node → NodeBound → List ℕ
-bound_line names shop v bound =
-    before (moment_word names bound.moment ∷ codes " " ∷ node_text v ∷ codes " " ∷ []) (before (hold_words names shop v bound.holds) (overdue_words names bound.overdue ++ codes "\n"))
+abbrev pub node_bound_line : NameBook → JobShop → Node → NodeBound → List ℕ
+node_bound_line names shop v bound =
+    words_and (moment_word names bound.moment ∷ codes " " ∷ node_text v ∷ codes " " ∷ []) (words_and (hold_words names shop v bound.holds) (overdue_since_words names bound.overdue ++ codes "\n"))

@@ -6,7 +6,7 @@ use Rattle.plan_verifier.specs.{RestVerdicts.IsAcceptedAhead, RestVerdicts.IsRea
 use Rattle.plan_verifier.specs.declared.verdict.Judged.TheVariants.{Accepted, Refused}
 
 -- it is accepted with its earliest moments, or refused with the reason
-pub record IsJudged (p : PlannedShop) (c : Cell) (t : ℕ) (verdict : Judged) : Type 0 where
+pub record IsKnownVerdict (p : PlannedShop) (c : Cell) (t : ℕ) (verdict : Judged) : Type 0 where
   pub accepted : IsAcceptedAhead p c t verdict
   pub refused : IsReasonAhead p c t verdict
 

@@ -9,8 +9,8 @@ use Rattle.plan_explain.specs.Labels.{label_of}
 use Rattle.plan_verifier.specs.declared.verdict.Judged.{Judged}
 use Rattle.plan_verifier.specs.{Held.IsBoundOf, declared.node_bound.NodeBound.NodeBound}
 use Rattle.plan_explain.specs.declared.arcs.ArcKind.TheVariants.{Job, Blocking}
-use Rattle.plan_explain.specs.{Arcs.time_of, Arcs.arc_kind, Cycles.arc_line, Cycles.cycle_lines, FirstLines.IsFirstLine, Holds.bound_line}
-use Rattle.plan_explain.specs.Chains.{reached_line, reached_lines, IsLongestTo, AreChainLines}
+use Rattle.plan_explain.specs.{Arcs.time_of, Arcs.arc_kind, Cycles.arc_line, Cycles.cycle_lines, FirstLines.IsFirstLine, Holds.node_bound_line}
+use Rattle.plan_explain.specs.Chains.{reached_line, reached_lines, IsLongestAheadTo, AreChainLines}
 
 -- each arc of the plan is printed as it is, the longer one where two join the same nodes, of two of one length the job's own; and takes the time that is printed
 pub record AreExactArcs (p : PlannedShop) : Type 0 where
@@ -27,12 +27,12 @@ ArcsAreExact = (p : PlannedShop) → AreExactArcs p
 -- the line of a node behind a longest path gives the length of the path up to it, which is that of the path before and of the longest arc between
 abbrev pub EachLineIsItsPath : Type 0
 EachLineIsItsPath = (names : NameBook) (p : PlannedShop) (c : Cell) (t : ℕ) (path nodes : List Node) (u v : Node) (n d : ℕ) (lines : List ℕ)
-    → IsSound p c → IsLongestTo p c t path u n → IsLongestArc p u v d → AreChainLines names p c t (path ++ v ∷ nodes) lines
+    → IsSound p c → IsLongestAheadTo p c t path u n → IsLongestArc p u v d → AreChainLines names p c t (path ++ v ∷ nodes) lines
     → (front : List ℕ) × AreChainLines names p c t path front × (lines ≡ front ++ (reached_line names (n + d) v (arc_kind p u v) ++ reached_lines names p (n + d) v nodes))
 
 -- what holds up the node is due at moment n, and this line says so
 abbrev pub IsBoundLine : NameBook → PlannedShop → Cell → ℕ → Node → ℕ → List ℕ → Type 0
-IsBoundLine names p c t v n line = (bound : NodeBound) × IsBoundOf p c t v bound × (bound.moment ≡ n) × (line ≡ bound_line names p.shop v bound)
+IsBoundLine names p c t v n line = (bound : NodeBound) × IsBoundOf p c t v bound × (bound.moment ≡ n) × (line ≡ node_bound_line names p.shop v bound)
 
 -- the last line of a path to v of length n: of the arc to v from the node before it, or, where there is none, of what holds v up
 abbrev pub IsLastLine : NameBook → PlannedShop → Cell → ℕ → List Node → Node → ℕ → List ℕ → Type 0
@@ -42,7 +42,7 @@ IsLastLine names p c t nodes v n line =
 -- the last line of a longest path's lines is of its last node, and gives its length
 abbrev pub TheLastLineIsTheLength : Type 0
 TheLastLineIsTheLength = (names : NameBook) (p : PlannedShop) (c : Cell) (t : ℕ) (nodes : List Node) (v : Node) (n : ℕ) (lines : List ℕ)
-    → IsSound p c → IsLongestTo p c t nodes v n → AreChainLines names p c t nodes lines → (front last : List ℕ) × (lines ≡ front ++ last) × IsLastLine names p c t nodes v n last
+    → IsSound p c → IsLongestAheadTo p c t nodes v n → AreChainLines names p c t nodes lines → (front last : List ℕ) × (lines ≡ front ++ last) × IsLastLine names p c t nodes v n last
 
 -- the last line of a cycle's lines is of the arc from its last node to its first
 abbrev pub TheLinesOfACycleClose : Type 0

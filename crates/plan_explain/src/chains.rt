@@ -2,7 +2,7 @@
 
 ghost use Rattle.std.specs.Prelude.{◌≡◌, ◌+◌, ◌^◌, ◌<◌, ◌≤◌, [], ◌∷◌, ◌++◌, length, codes, decimal, OnOk};
 ghost use Rattle.shop_base.specs.NodeText.{node_text};
-ghost use Rattle.plan_explain.specs.{Added.Adds, Arcs.before, Holds.overdue_words, Holds.hold_words};
+ghost use Rattle.plan_explain.specs.{Added.Adds, Arcs.words_and, Holds.overdue_since_words, Holds.hold_words};
 ghost use Rattle.plan_explain.specs.Chains.{AreAlong, length_from, reached_lines};
 ghost use Rattle.plan_explain.specs.Chains.{IsLongest, IsChainOrNone, AreChainLines};
 ghost use Rattle.people_names.specs.declared.names.TheConstants.{LONGEST_MOMENT};
@@ -64,7 +64,7 @@ fn push_from<P: Planned>(
 /// Writes since when that is overdue, if it is.
 fn put_overdue(line: &mut Line, names: &Names, overdue: Option<Moment>)
     requires { length line.old ≤ 1 }
-    ensures written { line.new ≡ overdue_words names.now overdue ++ line.old }
+    ensures written { line.new ≡ overdue_since_words names.now overdue ++ line.old }
     ensures length { length line.new ≤ LONGEST_MOMENT + 15 + length line.old }
 {
     match overdue {
@@ -79,7 +79,7 @@ fn put_overdue(line: &mut Line, names: &Names, overdue: Option<Moment>)
 /// Writes what holds a node up.
 fn put_hold(line: &mut Line, names: &Names, shop: &Shop, node: Node, holds: Hold)
     requires { length line.old ≤ 45 }
-    ensures written { line.new ≡ before (hold_words names.now shop.now node holds) line.old }
+    ensures written { line.new ≡ words_and (hold_words names.now shop.now node holds) line.old }
     ensures length { length line.new ≤ 168 + length line.old }
 {
     let step = node.place.saturating_sub(1);
@@ -126,7 +126,7 @@ fn put_since(
 )
     requires old { length line.old ≤ 45 }
     requires words { length words.now ≤ 15 }
-    ensures written { line.new ≡ before (machine_word names.now machine ∷ words.now
+    ensures written { line.new ≡ words_and (machine_word names.now machine ∷ words.now
         ∷ moment_word names.now since ∷ codes " for " ∷ decimal time ∷ []) line.old }
     ensures length { length line.new ≤ 94 + length words.now + length line.old }
 {
@@ -175,7 +175,7 @@ fn push_node_at(
 ) -> Result<(), AllocError>
     requires { length line.old ≤ 213 }
     ensures { OnOk result (text.new.items ≡ text.old.items
-        ++ before (moment_word names.now moment ∷ codes " " ∷ node_text node ∷ codes " " ∷ []) line.old) }
+        ++ words_and (moment_word names.now moment ∷ codes " " ∷ node_text node ∷ codes " " ∷ []) line.old) }
 {
     line.put_text(b" ");
     put_node(line, node);

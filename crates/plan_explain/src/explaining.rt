@@ -3,7 +3,7 @@
 ghost use Rattle.std.specs.Prelude.{◌≡◌, ◌<◌, ◌++◌, ◌↔◌, IsTrue, IfOk, IfSome, OnOk};
 ghost use Rattle.shop_base.specs.{Plan.jobs, Cell.IsGone};
 ghost use Rattle.plan_verifier.specs.{Leavings.leaves_in, Rest.AreOrderedAhead};
-ghost use Rattle.plan_explain.specs.{Added.Adds, Chains.IsChainOrNone, Known.IsJudged};
+ghost use Rattle.plan_explain.specs.{Added.Adds, Chains.IsChainOrNone, Known.IsKnownVerdict};
 ghost use Rattle.plan_explain.specs.Explained.{IsChosen, IsChainTo, IsChainToLast, AreLinesBehind, IsExplained};
 ghost use Rattle.plan_explain.specs.ChainsFound.{AreLinesOf, IsFound};
 
@@ -36,7 +36,7 @@ pub fn explain<P: Planned>(
     verdict: &Judged,
 ) -> Result<Vec<u8>, AllocError>
     requires job { IfSome job (λ j. j < jobs rest.now.plan) }
-    requires judged { IsJudged rest.now.plan rest.now.cell rest.now.present verdict.now }
+    requires judged { IsKnownVerdict rest.now.plan rest.now.cell rest.now.present verdict.now }
     ensures { let r = rest.now in
         IfOk result (λ text. IsExplained names.now r.plan r.cell r.present job verdict.now text.items) }
 {
@@ -54,7 +54,7 @@ fn push_lines_behind<P: Planned>(
     verdict: &Judged,
 ) -> Result<(), AllocError>
     requires job { IfSome job (λ j. j < jobs rest.now.plan) }
-    requires judged { IsJudged rest.now.plan rest.now.cell rest.now.present verdict.now }
+    requires judged { IsKnownVerdict rest.now.plan rest.now.cell rest.now.present verdict.now }
     ensures { let r = rest.now in
         OnOk result
         (Adds (AreLinesBehind names.now r.plan r.cell r.present job verdict.now) text.old.items text.new.items) }

@@ -7,7 +7,7 @@ ghost use Rattle.plan_verifier.specs.Leavings.{leaves_in};
 ghost use Rattle.plan_verifier.specs.RestVerdicts.{IsAcceptedAhead};
 ghost use Rattle.plan_explain.specs.{Added.Adds, Known.HasRanks};
 ghost use Rattle.plan_explain.specs.FirstLines.{node_words, moment_words, cycle_line, late_words, refused_late_line};
-ghost use Rattle.plan_explain.specs.FirstLines.{refused_line, moments_below, IsAcceptedText, IsLineByTimes, IsFirstLine};
+ghost use Rattle.plan_explain.specs.FirstLines.{reason_line, moments_below, IsAcceptedText, IsLineByTimes, IsFirstLine};
 
 use crate::words::{Line, push_line, put_node};
 use alt_graph::Times;
@@ -89,7 +89,7 @@ fn push_moment(text: &mut Vec<u8>, moment: Moment) -> Result<(), AllocError>
 
 /// Adds the line of a refusal.
 fn push_refused_line(text: &mut Vec<u8>, why: &Why) -> Result<(), AllocError>
-    ensures { OnOk result (text.new.items ≡ text.old.items ++ refused_line why.now) }
+    ensures { OnOk result (text.new.items ≡ text.old.items ++ reason_line why.now) }
 {
     match why {
         Why::Cycle(nodes) => push_cycle_line(text, nodes),

@@ -5,8 +5,8 @@ ghost use Rattle.shop_base.specs.Plan.{jobs, budget};
 ghost use Rattle.alt_graph.specs.Times.{AreRanks};
 ghost use Rattle.people_names.specs.Words.{moment_word};
 ghost use Rattle.plan_verifier.specs.Leavings.{leaves_in};
-ghost use Rattle.plan_explain.specs.Arcs.{before};
-ghost use Rattle.plan_explain.specs.Leavings.{budget_words, margin_words, job_line, job_lines};
+ghost use Rattle.plan_explain.specs.Arcs.{words_and};
+ghost use Rattle.plan_explain.specs.Leavings.{leaving_budget_words, margin_words, leaves_line, leaves_lines};
 
 use crate::words::{Line, push_job_at};
 use alt_graph::Times;
@@ -25,7 +25,7 @@ pub(crate) fn push_leaving_lines<P: Planned>(
 ) -> Result<(), AllocError>
     requires { AreRanks cell.now.plan times.now }
     ensures { let p = cell.now.plan in
-        OnOk result (text.new.items ≡ text.old.items ++ job_lines names.now p cell.now.cell (leaves_in p times.now)) }
+        OnOk result (text.new.items ≡ text.old.items ++ leaves_lines names.now p cell.now.cell (leaves_in p times.now)) }
 {
     for job in 0..cell.job_count() {
         let leaves = leave_time(cell, times, job);
@@ -45,7 +45,7 @@ fn push_job_line<P: Planned>(
 ) -> Result<(), AllocError>
     requires { job < jobs cell.now.plan }
     ensures { OnOk result
-        (text.new.items ≡ text.old.items ++ job_line names.now cell.now.plan cell.now.cell job leaves) }
+        (text.new.items ≡ text.old.items ++ leaves_line names.now cell.now.plan cell.now.cell job leaves) }
 {
     let budget = cell.shaped().budget_of(job);
     let mut line = Line::ended();
@@ -60,7 +60,7 @@ fn push_job_line<P: Planned>(
 /// Writes the budget, if it is printed, and what is left to it, or by how much the leaving is past it.
 fn put_margin(line: &mut Line, names: &Names, leaves: Moment, budget: Moment)
     requires { length line.old ≤ 1 }
-    ensures written { line.new ≡ before (margin_words names.now leaves budget) line.old }
+    ensures written { line.new ≡ words_and (margin_words names.now leaves budget) line.old }
     ensures length { length line.new ≤ 65 + length line.old }
 {
     if budget < leaves {
@@ -79,7 +79,7 @@ fn put_margin(line: &mut Line, names: &Names, leaves: Moment, budget: Moment)
 /// Writes ` budget B`.
 fn put_budget(line: &mut Line, names: &Names, budget: Moment)
     requires { length line.old ≤ 28 }
-    ensures written { line.new ≡ before (codes " budget " ∷ moment_word names.now budget ∷ []) line.old }
+    ensures written { line.new ≡ words_and (codes " budget " ∷ moment_word names.now budget ∷ []) line.old }
     ensures length { length line.new ≤ 37 + length line.old }
 {
     names.put_moment(line, budget);
@@ -89,7 +89,7 @@ fn put_budget(line: &mut Line, names: &Names, budget: Moment)
 /// Writes the budget, if it is printed.
 fn put_given_budget(line: &mut Line, names: &Names, budget: Moment)
     requires { length line.old ≤ 1 }
-    ensures written { line.new ≡ before (budget_words names.now budget []) line.old }
+    ensures written { line.new ≡ words_and (leaving_budget_words names.now budget []) line.old }
     ensures length { length line.new ≤ 37 + length line.old }
 {
     if names.prints_budget(budget) {

@@ -4,7 +4,7 @@ ghost use Rattle.std.specs.Prelude.{◌≡◌, ◌+◌, ◌≤◌, [], ◌∷◌
 ghost use Rattle.shop_base.specs.NodeText.{node_text};
 ghost use Rattle.people_names.specs.Words.{job_word, moment_word};
 ghost use Rattle.plan_explain.specs.Labels.{label_word};
-ghost use Rattle.plan_explain.specs.Arcs.{before, clean_words, arc_words};
+ghost use Rattle.plan_explain.specs.Arcs.{words_and, clean_words, arc_words};
 ghost use Rattle.plan_explain.specs.declared.words.TheConstants.{LINE_ROOM};
 
 use crate::arcs::ArcKind;
@@ -35,7 +35,7 @@ pub(crate) fn put_node(line: &mut Line, node: Node)
 #[inline(always)]
 pub fn put_job(line: &mut Line, names: &Names, job: JobNo, words: &[u8])
     requires { 44 + length words.now + length line.old ≤ LINE_ROOM }
-    ensures written { line.new ≡ before (codes "job " ∷ job_word names.now job ∷ words.now ∷ []) line.old }
+    ensures written { line.new ≡ words_and (codes "job " ∷ job_word names.now job ∷ words.now ∷ []) line.old }
     ensures length { length line.new ≤ 44 + length words.now + length line.old }
 {
     line.put_text(words);
@@ -47,7 +47,7 @@ pub fn put_job(line: &mut Line, names: &Names, job: JobNo, words: &[u8])
 #[inline(always)]
 pub fn put_visit(line: &mut Line, names: &Names, visit: Label, words: &[u8])
     requires { 55 + length words.now + length line.old ≤ LINE_ROOM }
-    ensures written { line.new ≡ before (codes "job " ∷ label_word names.now visit ∷ words.now ∷ []) line.old }
+    ensures written { line.new ≡ words_and (codes "job " ∷ label_word names.now visit ∷ words.now ∷ []) line.old }
     ensures length { length line.new ≤ 55 + length words.now + length line.old }
 {
     line.put_text(words);
@@ -71,7 +71,7 @@ fn put_clean(line: &mut Line, clean: Moment)
 #[inline(always)]
 pub(crate) fn put_arc(line: &mut Line, names: &Names, arc: ArcKind)
     requires { length line.old ≤ 1 }
-    ensures written { line.new ≡ before (arc_words names.now arc) line.old }
+    ensures written { line.new ≡ words_and (arc_words names.now arc) line.old }
     ensures length { length line.new ≤ 201 + length line.old }
 {
     match arc {
@@ -113,7 +113,7 @@ pub fn push_job_at(
 ) -> Result<(), AllocError>
     requires { 73 + length words.now + length line.old ≤ LINE_ROOM }
     ensures { OnOk result (text.new.items ≡ text.old.items
-        ++ before (codes "job " ∷ job_word names.now job ∷ words.now ∷ moment_word names.now moment ∷ []) line.old) }
+        ++ words_and (codes "job " ∷ job_word names.now job ∷ words.now ∷ moment_word names.now moment ∷ []) line.old) }
 {
     names.put_moment(line, moment);
     put_job(line, names, job, words);

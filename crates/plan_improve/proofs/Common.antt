@@ -20,10 +20,10 @@ pub use Rattle.plan_verifier.specs.{Rest.{AreOrderedAhead, IsGreatestAhead}, Res
 pub use Rattle.plan_verifier.specs.Verdicts.{SaysAccepted}
 pub use Rattle.plan_improve.specs.{AtBound.{IsBound, Meets}, Costs.{IsAtMost, IsCost, IsLateness, IsLess}}
 pub use Rattle.plan_improve.specs.Improved.{HasNoBegin, IsBegin, IsFound, IsNeverWorse, IsVerdictOn}
-pub use Rattle.plan_improve.specs.Keeping.{Comes, IsComeTo, IsFixed, IsLast, IsNext, IsNextOf, IsSearched, Stands, bound_in, rest_in, setting_of}
+pub use Rattle.plan_improve.specs.Keeping.{Comes, IsComeTo, IsFixed, IsLast, IsNext, IsNextOf, IsSearched, IsRestOfDone, bound_if_known, rest_in, setting_of}
 pub use Rattle.plan_improve.specs.Laws.{ASecondSearchIsNoWorse, AcceptedPlansStayAccepted, AcceptedRestsStayAccepted, NoWorseIsPassedOn, NobodyBettersIt, TheRestOfTheStartCostsThePlan, TheirMakespansNeverGrow}
 pub use Rattle.plan_improve.specs.RestCosts.{IsCostFrom, IsRestCost, late_by}
-pub use Rattle.plan_improve.specs.{RestKeeping.{IsImproved, LeaveSoon, the_last_leaving}, RestOf.{HasNotBegun, IsAwaited, IsRestOf, job_rest}}
+pub use Rattle.plan_improve.specs.{RestKeeping.{IsImproved, LeaveSoon, the_last_leaving}, RestOf.{NothingIsDone, HasNotArrived, IsRestOf, job_rest}}
 pub use Rattle.plan_improve.specs.Runs.{AfterRound, AfterRounds, AfterSome, Asked, Becomes, EndsAfter, ReportedRounds, Watched, better, no_answer, no_better, no_round, nobody, one_more, round_more}
 pub use Rattle.plan_improve.specs.Settings.{IsAtBound, IsBetter, IsBoundThere, IsNoWorse, Setting, rest_from, whole_plan}
 pub use Rattle.plan_improve.specs.{Watching.{ReportsMore, Progress, reported_bound}, declared.best.Best.Best, declared.cost.Cost.Cost}

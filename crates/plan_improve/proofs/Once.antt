@@ -1,7 +1,7 @@
 -- Each plan has one cost; and what is fixed is so for all plans that differ in their orders alone.
 use Rattle.std.proofs.Common.{◌≡◌, ℕ, ◌-◌, arith, refl, sym, ap, ap₂, ◌∙◌, subst}
 use Rattle.plan_bounds.specs.{Bounds.times_of, Makespan.IsBy}
-use Rattle.plan_improve.proofs.Common.{Cost, Fixed, HasCycle, IsBound, IsCost, IsFixed, IsLateness, IsReordered, IsRestOf, Nothing, PlannedShop, RestOfRun, Run, Setting, Stands, budget, greatest_once, jobs, leaving, makespan_le, bound_in, reordered, rest_from, rest_in, setting_of, sum_below, sum_below_same}
+use Rattle.plan_improve.proofs.Common.{Cost, Fixed, HasCycle, IsBound, IsCost, IsFixed, IsLateness, IsReordered, IsRestOf, Nothing, PlannedShop, RestOfRun, Run, Setting, IsRestOfDone, budget, greatest_once, jobs, leaving, makespan_le, bound_if_known, reordered, rest_from, rest_in, setting_of, sum_below, sum_below_same}
 use Rattle.plan_improve.proofs.{Comparing.cost_same, RestCosts.same_rest_cost}
 
 -- a plan has one cost
@@ -24,7 +24,7 @@ fixed_once (Nothing at_least) r p c d one other = same_cost p c d one other
 fixed_once (Run left) r p c d one other = same_rest_cost r.cell r.present p c d one other
 
 -- what is fixed of a rest is fixed of one to which that leads
-pub setting_same : (fixed : Fixed) (r x : RestOfRun PlannedShop) → Stands (setting_of fixed r) x → setting_of fixed x ≡ setting_of fixed r
+pub setting_same : (fixed : Fixed) (r x : RestOfRun PlannedShop) → IsRestOfDone (setting_of fixed r) x → setting_of fixed x ≡ setting_of fixed r
 setting_same (Nothing at_least) r x stands = refl
 setting_same (Run left) r x stands = ap₂ rest_from stands.1 stands.2
 
@@ -37,13 +37,13 @@ pub reordered_on : (p q r : PlannedShop) → IsReordered p q → IsReordered q r
 reordered_on p q r one next = next ∙ ap (λ x. reordered x r.plan.order) one
 
 -- what is fixed for a rest is so for one by a plan that differs in its orders alone
-pub fixed_on : (fixed : Fixed) (r x : RestOfRun PlannedShop) → IsFixed fixed r → Stands (setting_of fixed r) x → IsReordered r.plan x.plan → IsFixed fixed x
+pub fixed_on : (fixed : Fixed) (r x : RestOfRun PlannedShop) → IsFixed fixed r → IsRestOfDone (setting_of fixed r) x → IsReordered r.plan x.plan → IsFixed fixed x
 fixed_on fixed r x is stands same =
     let there : setting_of fixed x ≡ setting_of fixed r = setting_same fixed r x stands in
     record {
       left = λ q cost next costs. subst (λ (s : Setting). s.leaves q (rest_in fixed)) (sym there)
           (is.left q cost (reordered_on r.plan x.plan q same next) (subst (λ (s : Setting). s.costs q cost) there costs));
-      bound = λ q next. subst (λ (s : Setting). s.bounds q (bound_in fixed)) (sym there) (is.bound q (reordered_on r.plan x.plan q same next));
+      bound = λ q next. subst (λ (s : Setting). s.bounds q (bound_if_known fixed)) (sym there) (is.bound q (reordered_on r.plan x.plan q same next));
     }
 
 -- of a whole plan

@@ -3,7 +3,7 @@ use Rattle.std.proofs.Common.{◌≡◌, ℕ, ◌<◌, ◌≤◌, List, [], ◌�
 use Rattle.std.proofs.lemmas.{Bool.cases_lt, List.get_or_past}
 use Rattle.shop_base.specs.Plan.{job_at}
 use Rattle.shop_base.proofs.{InShop.start_unused, Visits.visits_job}
-use Rattle.plan_improve.proofs.Common.{AfterRound, BeginsWithEntries, Best, Cell, Cost, Fixed, HasNotBegun, IsLast, IsNextOf, IsSound, IsWellShaped, MachineState, Nothing, PlannedShop, Progress, Proposal, ReportedRounds, Rest, RestOfRun, Run, Setting, Stands, Watched, entries, machines, order, reordered, setting_of, start}
+use Rattle.plan_improve.proofs.Common.{AfterRound, BeginsWithEntries, Best, Cell, Cost, Fixed, NothingIsDone, IsLast, IsNextOf, IsSound, IsWellShaped, MachineState, Nothing, PlannedShop, Progress, Proposal, ReportedRounds, Rest, RestOfRun, Run, Setting, IsRestOfDone, Watched, entries, machines, order, reordered, setting_of, start}
 use Rattle.plan_improve.proofs.Once.{setting_same}
 
 -- nobody has entered a machine at the start
@@ -11,18 +11,18 @@ start_begins : (p q : PlannedShop) (c : Cell) → c ≡ start p → BeginsWithEn
 start_begins p q c same m = (order q m, sym (ap (λ es. es ++ order q m) (ap (λ (x : Cell). entries x m) same ∙ ap (λ (x : MachineState). x.entries) (start_unused p m))))
 
 -- it is the same by a plan whose orders begin with the entries
-pub stands_by : (fixed : Fixed) (x y : RestOfRun PlannedShop) (orders : List (List ℕ)) → Stands (setting_of fixed x) x → y.plan ≡ reordered x.plan orders → y.cell ≡ x.cell → y.present ≡ x.present
-    → BeginsWithEntries x.cell y.plan → Stands (setting_of fixed x) y
+pub stands_by : (fixed : Fixed) (x y : RestOfRun PlannedShop) (orders : List (List ℕ)) → IsRestOfDone (setting_of fixed x) x → y.plan ≡ reordered x.plan orders → y.cell ≡ x.cell → y.present ≡ x.present
+    → BeginsWithEntries x.cell y.plan → IsRestOfDone (setting_of fixed x) y
 stands_by (Nothing at_least) x y orders stands plan cell present begins = (cell ∙ stands.0 ∙ sym (ap start plan), present ∙ stands.1)
 stands_by (Run left) x y orders stands plan cell present begins = (begins, cell, present)
 
 -- and only by such a plan there is a cost
-pub costs_begin : (fixed : Fixed) (x : RestOfRun PlannedShop) (q : PlannedShop) (cost : Cost) → Stands (setting_of fixed x) x → (setting_of fixed x).costs q cost → BeginsWithEntries x.cell q
+pub costs_begin : (fixed : Fixed) (x : RestOfRun PlannedShop) (q : PlannedShop) (cost : Cost) → IsRestOfDone (setting_of fixed x) x → (setting_of fixed x).costs q cost → BeginsWithEntries x.cell q
 costs_begin (Nothing at_least) x q cost stands costs = start_begins x.plan q x.cell stands.0
 costs_begin (Run left) x q cost stands costs = costs.begins
 
 -- where no job has arrived, nobody has entered a machine
-module _ (p : PlannedShop) (c : Cell) (shaped : IsWellShaped p) (sound : IsSound p c) (fresh : HasNotBegun p c) where
+module _ (p : PlannedShop) (c : Cell) (shaped : IsWellShaped p) (sound : IsSound p c) (fresh : NothingIsDone p c) where
   -- a job that stands first in an order would have made a move
   none_first : (m : ℕ) → m < machines p → 0 < length (entries c m) → ⊥
   none_first m inside some =
@@ -45,19 +45,19 @@ module _ (p : PlannedShop) (c : Cell) (shaped : IsWellShaped p) (sound : IsSound
   ])
 
 -- where nothing was done yet, any orders do
-pub fresh_begins : (fixed : Fixed) (x : RestOfRun PlannedShop) (q : PlannedShop) → IsWellShaped x.plan → IsSound x.plan x.cell → Stands (setting_of fixed x) x → (setting_of fixed x).fresh x.plan
+pub fresh_begins : (fixed : Fixed) (x : RestOfRun PlannedShop) (q : PlannedShop) → IsWellShaped x.plan → IsSound x.plan x.cell → IsRestOfDone (setting_of fixed x) x → (setting_of fixed x).fresh x.plan
     → BeginsWithEntries x.cell q
 fresh_begins (Nothing at_least) x q shaped sound stands fresh = start_begins x.plan q x.cell stands.0
 fresh_begins (Run left) x q shaped sound stands fresh =
     λ m. (order q m, sym (ap (λ es. es ++ order q m) (nobody_entered x.plan x.cell shaped sound fresh m (entries x.cell m) refl)))
 
 -- what is fixed of a rest, said of one to which that leads
-module _ (fixed : Fixed) (r x : RestOfRun PlannedShop) (stands : Stands (setting_of fixed r) x) where
+module _ (fixed : Fixed) (r x : RestOfRun PlannedShop) (stands : IsRestOfDone (setting_of fixed r) x) where
   same : setting_of fixed x ≡ setting_of fixed r
   same = setting_same fixed r x stands
 
-  pub stands_own : Stands (setting_of fixed x) x
-  stands_own = subst (λ (s : Setting). Stands s x) (sym same) stands
+  pub stands_own : IsRestOfDone (setting_of fixed x) x
+  stands_own = subst (λ (s : Setting). IsRestOfDone s x) (sym same) stands
 
   pub costs_own : (p : PlannedShop) (cost : Cost) → (setting_of fixed r).costs p cost → (setting_of fixed x).costs p cost
   costs_own p cost is = subst (λ (s : Setting). s.costs p cost) (sym same) is

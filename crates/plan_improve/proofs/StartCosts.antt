@@ -1,7 +1,7 @@
 -- The rest of a run that hasn't begun costs what the whole plan does; and what a cell's plan costs where something is fixed.
 use Rattle.std.proofs.Common.{◌≡◌, ℕ, ◌-◌, if◌then◌else◌, le-ltb, Option, None, Some, Result, Ok, Err, IfOk, arith, sym, ap, ◌∙◌, subst}
 use Rattle.plan_verifier.proofs.AtStart.{leavings_to, leavings_from}
-use Rattle.plan_improve.proofs.Common.{Cell, Cost, Fixed, HasCycle, IsCost, IsCostFrom, IsWellShaped, MatchOption, Nothing, PlannedShop, RestOfRun, Run, Stands, TheRestOfTheStartCostsThePlan, budget, jobs, late_by, made, makespan_is, makespan_last, setting_of, start, start-made, steps, sum_below, sum_below_same}
+use Rattle.plan_improve.proofs.Common.{Cell, Cost, Fixed, HasCycle, IsCost, IsCostFrom, IsWellShaped, MatchOption, Nothing, PlannedShop, RestOfRun, Run, IsRestOfDone, TheRestOfTheStartCostsThePlan, budget, jobs, late_by, made, makespan_is, makespan_last, setting_of, start, start-made, steps, sum_below, sum_below_same}
 
 late_whole : (p : PlannedShop) (leaves : ℕ → ℕ) → sum_below (late_by p (start p) leaves) (jobs p) ≡ sum_below (λ j. leaves j - budget p j) (jobs p)
 late_whole p leaves = sum_below_same _ _ (jobs p) (λ j inside.
@@ -29,7 +29,7 @@ pub start_law : TheRestOfTheStartCostsThePlan
 start_law p cost shaped = (plan_cost p cost shaped, rest_cost p cost shaped)
 
 -- the cost of a rest to which what is fixed leads is the plan's
-pub costs_there : {E : Type 0} (fixed : Fixed) (r : RestOfRun PlannedShop) (a : Result (Option Cost) E) → IsWellShaped r.plan → Stands (setting_of fixed r) r
+pub costs_there : {E : Type 0} (fixed : Fixed) (r : RestOfRun PlannedShop) (a : Result (Option Cost) E) → IsWellShaped r.plan → IsRestOfDone (setting_of fixed r) r
     → IfOk a (λ cost. MatchOption cost (HasCycle r.plan) (IsCostFrom r.plan r.cell r.present)) → IfOk a (λ cost. MatchOption cost (HasCycle r.plan) ((setting_of fixed r).costs r.plan))
 costs_there fixed r (Ok None) shaped stands cycle = cycle
 costs_there (Nothing at_least) r (Ok (Some cost)) shaped stands is =

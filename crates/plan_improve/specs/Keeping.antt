@@ -22,19 +22,19 @@ rest_in (Nothing at_least) = None
 rest_in (Run left) = Some left.now
 
 -- the bound, if one is known
-abbrev pub bound_in : Fixed → Option ℕ
-bound_in (Nothing at_least) = Some at_least
-bound_in (Run left) = None
+abbrev pub bound_if_known : Fixed → Option ℕ
+bound_if_known (Nothing at_least) = Some at_least
+bound_if_known (Run left) = None
 
 -- this is fixed for a rest, whatever the orders of its plan: what is left of it, and its bound
 pub record IsFixed (fixed : Fixed) (r : RestOfRun PlannedShop) : Type 0 where
   pub left : (q : PlannedShop) (cost : Cost) → IsReordered r.plan q → (setting_of fixed r).costs q cost → (setting_of fixed r).leaves q (rest_in fixed)
-  pub bound : (q : PlannedShop) → IsReordered r.plan q → (setting_of fixed r).bounds q (bound_in fixed)
+  pub bound : (q : PlannedShop) → IsReordered r.plan q → (setting_of fixed r).bounds q (bound_if_known fixed)
 
 module _ (s : Setting) where
   -- the rest is the one to which what was done leads by its plan
-  abbrev pub Stands : RestOfRun PlannedShop → Type 0
-  Stands x = s.cells x.plan x.cell x.present
+  abbrev pub IsRestOfDone : RestOfRun PlannedShop → Type 0
+  IsRestOfDone x = s.cells x.plan x.cell x.present
 
   -- this is the plan's cost if it has one that is less than the bound; else it has none
   abbrev pub IsCostBelow : PlannedShop → Cost → Option Cost → Type 0
@@ -43,13 +43,13 @@ module _ (s : Setting) where
 
   -- the plan with which a search begins, with its cost, or that there is none
   abbrev pub IsFirst : PlannedShop → First → Type 0
-  IsFirst start (Begins best) = IsBegin s start best.rest.plan × Stands best.rest × s.costs best.rest.plan best.cost
-  IsFirst start (StaysFirst back) = (back.plan ≡ start) × Stands back × HasNoBegin s start
+  IsFirst start (Begins best) = IsBegin s start best.rest.plan × IsRestOfDone best.rest × s.costs best.rest.plan best.cost
+  IsFirst start (StaysFirst back) = (back.plan ≡ start) × IsRestOfDone back × HasNoBegin s start
 
   -- the best plan that an answer makes of one with its cost
   pub record IsNext (p : PlannedShop) (c : Cost) (answer : Proposal) (kept : Best) : Type 0 where
     pub becomes : Becomes s p answer kept.rest.plan
-    pub stands : Stands kept.rest
+    pub stands : IsRestOfDone kept.rest
     pub is : s.costs kept.rest.plan kept.cost
     pub most : IsAtMost kept.cost c
 
@@ -61,7 +61,7 @@ module _ (s : Setting) where
   pub record IsLast (made : Asked) (p : PlannedShop) (c : Cost) (kept : Best) : Type 0 where
     pub run : made p kept.rest.plan
     pub same : IsReordered p kept.rest.plan
-    pub stands : Stands kept.rest
+    pub stands : IsRestOfDone kept.rest
     pub is : s.costs kept.rest.plan kept.cost
     pub most : IsAtMost kept.cost c
 
@@ -77,4 +77,4 @@ module _ (s : Setting) where
 
   -- a rest by that plan
   abbrev pub IsComeTo : Asked → PlannedShop → RestOfRun PlannedShop → Type 0
-  IsComeTo made start x = Comes made start x.plan × Stands x
+  IsComeTo made start x = Comes made start x.plan × IsRestOfDone x

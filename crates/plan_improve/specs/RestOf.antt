@@ -20,9 +20,9 @@ module _ (p : PlannedShop) (c : Cell) (t : ℕ) where
     pub each_machine : rest.cleanings.items ≡ map (cleaning c) (range_with_len 0 (machines p))
 
 -- job j hasn't arrived: it isn't ready, and has made no move
-abbrev pub IsAwaited : Cell → ℕ → Type 0
-IsAwaited c j = (made c j ≡ 0) × (ready c j ≡ false)
+abbrev pub HasNotArrived : Cell → ℕ → Type 0
+HasNotArrived c j = (made c j ≡ 0) × (ready c j ≡ false)
 
 -- nothing was done yet: no job has arrived
-abbrev pub HasNotBegun : PlannedShop → Cell → Type 0
-HasNotBegun p c = (j : ℕ) → j < jobs p → IsAwaited c j
+abbrev pub NothingIsDone : PlannedShop → Cell → Type 0
+NothingIsDone p c = (j : ℕ) → j < jobs p → HasNotArrived c j

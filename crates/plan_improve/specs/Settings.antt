@@ -4,7 +4,7 @@ use Rattle.shop_base.specs.{Plan.PlannedShop, Plan.IsWellShaped, Cell.Cell, Cell
 use Rattle.cell_tables.specs.Reordered.{BeginsWithEntries}
 use Rattle.plan_annealing.specs.declared.annealed.Rest.{Rest}
 use Rattle.plan_improve.specs.{declared.cost.Cost.Cost, Costs.IsCost, Costs.IsLess, Costs.IsAtMost, AtBound.IsBound, AtBound.Meets}
-use Rattle.plan_improve.specs.{RestCosts.IsRestCost, RestOf.IsRestOf, RestOf.HasNotBegun}
+use Rattle.plan_improve.specs.{RestCosts.IsRestCost, RestOf.IsRestOf, RestOf.NothingIsDone}
 
 -- what a run has left of a plan, as an improver gets it; nothing where no run has begun
 abbrev pub Left : Type 0
@@ -36,7 +36,7 @@ IsRestThere c t p (Some rest) = IsRestOf p c t rest
 abbrev pub rest_from : Cell → ℕ → Setting
 rest_from c t = record {
   cells = λ p d u. BeginsWithEntries c p × (d ≡ c) × (u ≡ t);
-  fresh = λ p. HasNotBegun p c;
+  fresh = λ p. NothingIsDone p c;
   costs = IsRestCost c t;
   leaves = IsRestThere c t;
   bounds = λ p bound. bound ≡ None;

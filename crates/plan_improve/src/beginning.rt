@@ -3,7 +3,7 @@
 ghost use Rattle.std.specs.Prelude.{◌≡◌, ◌↔◌, false, IfOk, IfErr};
 ghost use Rattle.alt_graph.specs.Solved.{HasCycle};
 ghost use Rattle.cell_tables.specs.Reordered.{IsReordered};
-ghost use Rattle.plan_improve.specs.Keeping.{setting_of, IsFirst, Stands};
+ghost use Rattle.plan_improve.specs.Keeping.{setting_of, IsFirst, IsRestOfDone};
 
 use crate::best::Best;
 use crate::fixed::Fixed;
@@ -29,7 +29,7 @@ pub(crate) fn first_plan(
     fixed: &Fixed<'_>,
     has_begun: bool,
 ) -> Result<First, (AllocError, Shaped)>
-    requires stands { Stands (setting_of fixed.now start) start }
+    requires stands { IsRestOfDone (setting_of fixed.now start) start }
     requires begun { (has_begun ≡ false) ↔ (setting_of fixed.now start).fresh start.plan }
     ensures first { IfOk result (IsFirst (setting_of fixed.now start) start.plan) }
     ensures handed_back { IfErr result (λ refused. IsReordered start.plan refused.1) }
@@ -53,7 +53,7 @@ fn first_serially(
     start: Rest<Shaped>,
     fixed: &Fixed<'_>,
 ) -> Result<First, (AllocError, Shaped)>
-    requires stands { Stands (setting_of fixed.now start) start }
+    requires stands { IsRestOfDone (setting_of fixed.now start) start }
     requires cycle { HasCycle start.plan }
     requires fresh { (setting_of fixed.now start).fresh start.plan }
     ensures first { IfOk result (IsFirst (setting_of fixed.now start) start.plan) }

@@ -2,7 +2,7 @@
 
 ghost use Rattle.std.specs.Prelude.{◌≡◌, IfOk, MatchOption, option_copied};
 ghost use Rattle.alt_graph.specs.Solved.{HasCycle};
-ghost use Rattle.plan_improve.specs.Keeping.{setting_of, rest_in, bound_in, IsCostBelow, Stands};
+ghost use Rattle.plan_improve.specs.Keeping.{setting_of, rest_in, bound_if_known, IsCostBelow, IsRestOfDone};
 
 use crate::cost::Cost;
 use crate::costing::cost_from;
@@ -33,7 +33,7 @@ impl<'a> Fixed<'a> {
 
     /// The bound below which no makespan is, if one is known.
     pub fn at_least(&self) -> Option<Moment>
-        ensures { result ≡ bound_in self.now }
+        ensures { result ≡ bound_if_known self.now }
     {
         match self {
             Fixed::Nothing { at_least } => Some(*at_least),
@@ -43,7 +43,7 @@ impl<'a> Fixed<'a> {
 
     /// The cost of a rest's plan; `None` if it has a cycle.
     pub fn cost(&self, alloc: Global, rest: &Rest<Shaped>) -> Result<Option<Cost>, AllocError>
-        requires { Stands (setting_of self.now rest.now) rest.now }
+        requires { IsRestOfDone (setting_of self.now rest.now) rest.now }
         ensures { let p = rest.now.plan in
             IfOk result (λ cost. MatchOption cost (HasCycle p) ((setting_of self.now rest.now).costs p)) }
     {
@@ -59,7 +59,7 @@ impl<'a> Fixed<'a> {
         rest: &Rest<Shaped>,
         bound: &Cost,
     ) -> Result<Option<Cost>, AllocError>
-        requires { Stands (setting_of self.now rest.now) rest.now }
+        requires { IsRestOfDone (setting_of self.now rest.now) rest.now }
         ensures { IfOk result (IsCostBelow (setting_of self.now rest.now) rest.now.plan bound.now) }
     {
         match self.cost(alloc, rest)? {

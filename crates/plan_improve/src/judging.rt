@@ -3,7 +3,7 @@
 ghost use Rattle.std.specs.Prelude.{IfOk, IfErr, Some};
 ghost use Rattle.shop_base.specs.Vectors.{lists_of};
 ghost use Rattle.cell_tables.specs.Reordered.{IsReordered};
-ghost use Rattle.plan_improve.specs.Keeping.{setting_of, IsNext, Stands};
+ghost use Rattle.plan_improve.specs.Keeping.{setting_of, IsNext, IsRestOfDone};
 
 use crate::best::Best;
 use crate::fixed::Fixed;
@@ -19,7 +19,7 @@ pub(crate) fn judge_orders(
     order: Vec<Vec<JobNo>>,
     fixed: &Fixed<'_>,
 ) -> Result<Best, (AllocError, Shaped)>
-    requires stands { Stands (setting_of fixed.now best.rest) best.rest }
+    requires stands { IsRestOfDone (setting_of fixed.now best.rest) best.rest }
     requires cost { (setting_of fixed.now best.rest).costs best.rest.plan best.cost }
     ensures judged { let s = setting_of fixed.now best.rest in
         IfOk result (IsNext s best.rest.plan best.cost (Some (lists_of order.items))) }

@@ -2,7 +2,7 @@
 
 ghost use Rattle.std.specs.Prelude.{◌≡◌, ◌<◌, ◌↔◌, false, IfOk};
 ghost use Rattle.shop_base.specs.Plan.{jobs};
-ghost use Rattle.plan_improve.specs.RestOf.{IsRestOf, job_rest, IsAwaited, HasNotBegun};
+ghost use Rattle.plan_improve.specs.RestOf.{IsRestOf, job_rest, HasNotArrived, NothingIsDone};
 
 use cell_tables::{Rest, WorkCell};
 use plan_annealing::{JobRest, Rest as Left};
@@ -47,7 +47,7 @@ fn job_rest<P: Planned>(cell: &WorkCell<P>, present: Moment, job: JobNo) -> JobR
 
 /// Whether a job has arrived.
 pub(crate) fn has_begun<P: Planned>(cell: &WorkCell<P>) -> bool
-    ensures { (result ≡ false) ↔ HasNotBegun cell.now.plan cell.now.cell }
+    ensures { (result ≡ false) ↔ NothingIsDone cell.now.plan cell.now.cell }
 {
     for job in 0..cell.job_count() {
         if has_arrived(cell, job) {
@@ -60,7 +60,7 @@ pub(crate) fn has_begun<P: Planned>(cell: &WorkCell<P>) -> bool
 /// Whether the job has arrived.
 fn has_arrived<P: Planned>(cell: &WorkCell<P>, job: JobNo) -> bool
     requires { job < jobs cell.now.plan }
-    ensures { (result ≡ false) ↔ IsAwaited cell.now.cell job }
+    ensures { (result ≡ false) ↔ HasNotArrived cell.now.cell job }
 {
     let state = cell.job_state(job);
     if state.ready {

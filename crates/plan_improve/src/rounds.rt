@@ -5,7 +5,7 @@ ghost use Rattle.plan_seek.specs.Orders.{proposal_of};
 ghost use Rattle.cell_tables.specs.Reordered.{IsReordered};
 ghost use Rattle.plan_improve.specs.Watching.{reported_bound};
 ghost use Rattle.plan_improve.specs.Runs.{AfterRound, ReportedRounds, Watched};
-ghost use Rattle.plan_improve.specs.Keeping.{setting_of, rest_in, IsFixed, IsNextOf, IsLast, Stands};
+ghost use Rattle.plan_improve.specs.Keeping.{setting_of, rest_in, IsFixed, IsNextOf, IsLast, IsRestOfDone};
 
 use crate::best::Best;
 use crate::fixed::Fixed;
@@ -27,7 +27,7 @@ pub(crate) fn ask_in_rounds<W: Watch>(
     rounds: u32,
     watch: &mut W,
 ) -> Result<Best, (AllocError, Shaped)>
-    requires stands { Stands (setting_of fixed.now best.rest) best.rest }
+    requires stands { IsRestOfDone (setting_of fixed.now best.rest) best.rest }
     requires cost { (setting_of fixed.now best.rest).costs best.rest.plan best.cost }
     requires fixed { IsFixed fixed.now best.rest }
     ensures last { IfOk result (IsLast (setting_of fixed.now best.rest) (Watched (W.reported watch.old) (W.reported watch.new)
@@ -68,7 +68,7 @@ fn ask_each(
     improvers: &[Box<dyn Improver>],
     round: u32,
 ) -> Result<Best, (AllocError, Shaped)>
-    requires stands { Stands (setting_of fixed.now best.rest) best.rest }
+    requires stands { IsRestOfDone (setting_of fixed.now best.rest) best.rest }
     requires cost { (setting_of fixed.now best.rest).costs best.rest.plan best.cost }
     requires fixed { IsFixed fixed.now best.rest }
     ensures last { let s = setting_of fixed.now best.rest in
@@ -93,7 +93,7 @@ fn ask_one(
     improver: &Box<dyn Improver>,
     round: u32,
 ) -> Result<Best, (AllocError, Shaped)>
-    requires stands { Stands (setting_of fixed.now best.rest) best.rest }
+    requires stands { IsRestOfDone (setting_of fixed.now best.rest) best.rest }
     requires cost { (setting_of fixed.now best.rest).costs best.rest.plan best.cost }
     requires fixed { IsFixed fixed.now best.rest }
     ensures asked { IfOk result (IsNextOf (setting_of fixed.now best.rest)

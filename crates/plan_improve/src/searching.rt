@@ -3,7 +3,7 @@
 ghost use Rattle.std.specs.Prelude.{◌≡◌, ◌↔◌, false, IfOk, IfErr};
 ghost use Rattle.cell_tables.specs.Reordered.{IsReordered};
 ghost use Rattle.plan_improve.specs.Runs.{ReportedRounds, Watched};
-ghost use Rattle.plan_improve.specs.Keeping.{setting_of, IsFixed, IsComeTo, Stands};
+ghost use Rattle.plan_improve.specs.Keeping.{setting_of, IsFixed, IsComeTo, IsRestOfDone};
 
 use crate::beginning::{First, first_plan};
 use crate::best::Best;
@@ -27,7 +27,7 @@ pub(crate) fn search<W: Watch>(
     watch: &mut W,
 ) -> Result<Rest<Shaped>, (AllocError, Shaped)>
     requires fixed { IsFixed fixed.now start }
-    requires stands { Stands (setting_of fixed.now start) start }
+    requires stands { IsRestOfDone (setting_of fixed.now start) start }
     requires begun { (has_begun ≡ false) ↔ (setting_of fixed.now start).fresh start.plan }
     ensures comes { IfOk result (IsComeTo (setting_of fixed.now start) (Watched (W.reported watch.old) (W.reported watch.new)
         (ReportedRounds (setting_of fixed.now start) (λ b. may b) improvers.now rounds)) start.plan) }

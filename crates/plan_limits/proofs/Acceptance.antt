@@ -5,7 +5,7 @@ use Rattle.shop_base.specs.AheadLaw.{TheStartIsACase}
 use Rattle.shop_base.proofs.StartAhead.{the_start_is_a_case-holds}
 use Rattle.plan_verifier.proofs.Reasons.{acceptable}
 use Rattle.plan_bounds.specs.Bounds.{ShopTimes, times_of}
-use Rattle.plan_limits.specs.Stages.{at_start}
+use Rattle.plan_limits.specs.Stages.{stage_at_start}
 use Rattle.plan_limits.specs.Limits.{KeepsLimits, NoPlanKeepsFrom}
 use Rattle.plan_limits.specs.LimitsLaw.{AcceptablePlansKeepLimits, NeverIsNeverAccepted, NeverIsNeverAcceptedFromThere, TheStartIsEveryPlan}
 
@@ -28,7 +28,7 @@ never_is_never_accepted_from_there-holds s limits p never goes within accepted =
 })
 
 -- what is out by limits in a whole plan is so from the start
-start_keeps : (p : PlannedShop) (limits : List (Option ℕ)) → IsWellShaped p → KeepsLimits p limits → NoPlanKeepsFrom (at_start (times_of p)) limits → ⊥
+start_keeps : (p : PlannedShop) (limits : List (Option ℕ)) → IsWellShaped p → KeepsLimits p limits → NoPlanKeepsFrom (stage_at_start (times_of p)) limits → ⊥
 start_keeps p limits shaped keeps never = never p (record { shaped = shaped; same = refl; run = []; is_run = tt; cell = refl }) (record {
   acyclic = keeps.acyclic;
   jobs = λ j n inside here limited nodes k path. (
@@ -41,4 +41,4 @@ start_keeps p limits shaped keeps never = never p (record { shaped = shaped; sam
 
 pub the_start_is_every_plan-holds : TheStartIsEveryPlan
 the_start_is_every_plan-holds t limits never p shaped same keeps =
-    start_keeps p limits shaped keeps (subst (λ (x : ShopTimes). NoPlanKeepsFrom (at_start x) limits) (sym same) never)
+    start_keeps p limits shaped keeps (subst (λ (x : ShopTimes). NoPlanKeepsFrom (stage_at_start x) limits) (sym same) never)

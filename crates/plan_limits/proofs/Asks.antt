@@ -10,7 +10,7 @@ use Rattle.arc_choice.specs.Choices.{IsArc, IsSoundQuestion, IsImpossible, arc_a
 use Rattle.arc_choice.specs.Outcomes.{OnNever}
 use Rattle.plan_bounds.specs.Bounds.{times_of}
 use Rattle.plan_limits.specs.declared.questions.TheConstants.{MAX_NODES}
-use Rattle.plan_limits.specs.Stages.{Stage, stage_of, IsTimed}
+use Rattle.plan_limits.specs.Stages.{Stage, stage_of, HasSoundMoments}
 use Rattle.plan_limits.specs.Limits.{NoPlanKeepsFrom}
 use Rattle.plan_limits.specs.Asked.{by_number, AreNumbered, AreFirst, AreLast, AreFixedArcs, AreMachinePairs, Asks}
 use Rattle.plan_limits.proofs.KeptArcs.{IsKeptArc, IsKeptPair, fixed_arc, machine_pair}
@@ -50,7 +50,7 @@ at_never P (Chosen moments) is holds = absurd (cc)
 at_never P Open is holds = absurd (cc)
 
 -- where nothing answers the question no plan keeps the limits
-pub no_plan_keeps : (s : Stage) (nodes : List Node) (limits : List (Option ℕ)) (q : Question) → IsTimed s → Asks s nodes limits q → IsImpossible q → NoPlanKeepsFrom s limits
+pub no_plan_keeps : (s : Stage) (nodes : List Node) (limits : List (Option ℕ)) (q : Question) → HasSoundMoments s → Asks s nodes limits q → IsImpossible q → NoPlanKeepsFrom s limits
 no_plan_keeps s nodes limits q timed asks impossible p goes keeps =
     let found = every_plan_gives_moments-holds s p limits timed goes keeps in
     impossible (by_number nodes found.0) (asks found.0 found.1 found.2)

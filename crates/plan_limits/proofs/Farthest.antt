@@ -20,7 +20,7 @@ use Rattle.plan_verifier.specs.Held.{later_than}
 use Rattle.plan_verifier.proofs.PathsAhead.{begun_at, begun_next, beginning_in_table, beginning_ahead, beginning_path}
 use Rattle.plan_verifier.proofs.Tables.{later_is, later_above, later_other, cleaned_holds, holds_cleaned}
 use Rattle.plan_limits.specs.declared.moments.TheConstants.{FINE}
-use Rattle.plan_limits.specs.Stages.{Stage, stage_of, IsTimed}
+use Rattle.plan_limits.specs.Stages.{Stage, stage_of, HasSoundMoments}
 use Rattle.plan_limits.specs.Limits.{KeepsLimitsFrom}
 use Rattle.plan_limits.specs.LimitsLaw.{AreFineMoments, LeaveWithin, EveryPlanGivesMoments}
 use Rattle.plan_limits.proofs.Between.{fine_moments}
@@ -228,7 +228,7 @@ module _ (p : PlannedShop) (c : Cell) (t : ℕ) (shaped : IsWellShaped p) (sound
   arc_short _ _ _ (job_arc j k within) = omega (arith, (visits-sound p j k (machine_of p j k) shaped (visit j k within)).nominal)
   arc_short _ _ _ (blocking_arc m a i k j l one other) = omega (arith, shaped.limits.cleanings m (visits_machine p i k m shaped one.visits))
 
-  module _ (timed : IsTimed (stage_of p c t)) where
+  module _ (timed : HasSoundMoments (stage_of p c t)) where
     -- what goes on with a job is due in time
     due_small : (j due : ℕ) → j < jobs p → due_of_job p j (job_in c j) ≡ Some due → due ≤ MAX_MOMENT + MAX_RELEASE
     due_small j due inside comes_due = elim (job_due p c j due comes_due) [
@@ -300,7 +300,7 @@ pub every_plan_gives_moments-holds : EveryPlanGivesMoments
 every_plan_gives_moments-holds s p limits timed goes keeps =
     let same : stage_of p s.cell s.present ≡ s = λ i. record { times = goes.same i; cell = s.cell; present = s.present } in
     let sound : IsSound p s.cell = subst (IsSound p) (sym goes.cell) (run-sound p goes.run goes.shaped goes.is_run) in
-    let here : IsTimed (stage_of p s.cell s.present) = subst IsTimed (sym same) timed in
+    let here : HasSoundMoments (stage_of p s.cell s.present) = subst HasSoundMoments (sym same) timed in
     let keeps_here : KeepsLimitsFrom (stage_of p s.cell s.present) p limits = subst (λ (x : Stage). KeepsLimitsFrom x p limits) (sym same) keeps in
     let w : Node → ℕ = all p s.cell s.present goes.shaped sound here in (
       w,

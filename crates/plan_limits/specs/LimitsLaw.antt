@@ -12,7 +12,7 @@ use Rattle.plan_verifier.specs.Held.{later_than}
 use Rattle.plan_verifier.specs.RestVerdicts.{IsAcceptableAhead}
 use Rattle.plan_bounds.specs.Bounds.{ShopTimes, times_of, job_count, route_in, IsVisit}
 use Rattle.plan_limits.specs.declared.moments.TheConstants.{FINE}
-use Rattle.plan_limits.specs.Stages.{Stage, bare, at_start, IsTimed, GoesOnFrom}
+use Rattle.plan_limits.specs.Stages.{Stage, bare, stage_at_start, HasSoundMoments, GoesOnFrom}
 use Rattle.plan_limits.specs.Limits.{limit_of, KeepsLimits, KeepsLimitsFrom, NoPlanKeeps, NoPlanKeepsFrom}
 
 module _ (s : Stage) where
@@ -40,7 +40,7 @@ module _ (s : Stage) where
 
 -- a plan that goes on from a cell and keeps the limits gives such moments, whatever its orders
 abbrev pub EveryPlanGivesMoments : Type 0
-EveryPlanGivesMoments = (s : Stage) (p : PlannedShop) (limits : List (Option ℕ)) → IsTimed s → GoesOnFrom s p → KeepsLimitsFrom s p limits → (w : Node → ℕ) × AreFineMoments s w × LeaveWithin s limits w
+EveryPlanGivesMoments = (s : Stage) (p : PlannedShop) (limits : List (Option ℕ)) → HasSoundMoments s → GoesOnFrom s p → KeepsLimitsFrom s p limits → (w : Node → ℕ) × AreFineMoments s w × LeaveWithin s limits w
 
 -- each budget is at most the limit that the job has
 abbrev pub AreBudgetsWithin : PlannedShop → List (Option ℕ) → Type 0
@@ -62,4 +62,4 @@ NeverIsNeverAcceptedFromThere = (s : Stage) (limits : List (Option ℕ)) (p : Pl
 
 -- at the start all whole plans go on: where none that goes on keeps the limits no plan does
 abbrev pub TheStartIsEveryPlan : Type 0
-TheStartIsEveryPlan = (t : ShopTimes) (limits : List (Option ℕ)) → NoPlanKeepsFrom (at_start t) limits → NoPlanKeeps t limits
+TheStartIsEveryPlan = (t : ShopTimes) (limits : List (Option ℕ)) → NoPlanKeepsFrom (stage_at_start t) limits → NoPlanKeeps t limits

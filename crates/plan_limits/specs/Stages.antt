@@ -21,15 +21,15 @@ abbrev pub start_in : ShopTimes → Cell
 start_in t = record { jobs = replicate (job_count t) (record { made = 0; ready = false; since = 0 }); machines = replicate t.shop.machines unused; last = 0 }
 
 -- that of a whole plan: nothing has happened, and the present moment is 0
-abbrev pub at_start : ShopTimes → Stage
-at_start t = record { times = t; cell = start_in t; present = 0 }
+abbrev pub stage_at_start : ShopTimes → Stage
+stage_at_start t = record { times = t; cell = start_in t; present = 0 }
 
 -- a plan with these times and no orders
 abbrev pub bare : ShopTimes → PlannedShop
 bare t = record { shop = t.shop; plan = record { release = t.release; budget = []; order = []; clean = t.clean } }
 
 -- the present moment, and the moments since which machines are being cleaned, are within the limit
-pub record IsTimed (s : Stage) : Type 0 where
+pub record HasSoundMoments (s : Stage) : Type 0 where
   pub present : s.present ≤ MAX_MOMENT
   pub cleanings : (m from : ℕ) → cleaning s.cell m ≡ Some from → from ≤ MAX_MOMENT
 

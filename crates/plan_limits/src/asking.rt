@@ -2,7 +2,7 @@
 
 ghost use Rattle.std.specs.Prelude.{◌≡◌, ◌≤◌, IfOk, length};
 ghost use Rattle.shop_base.specs.{declared.limits.TheConstants.MAX_MOMENT, Plan.jobs};
-ghost use Rattle.plan_limits.specs.{Stages.stage_of, Limits.NoPlanKeepsFrom, Answered.OnNever};
+ghost use Rattle.plan_limits.specs.{Stages.stage_of, Limits.NoPlanKeepsFrom, Answered.OnAnsweredNever};
 
 use crate::numbering::asked_nodes;
 use crate::orders::orders_by;
@@ -44,7 +44,7 @@ pub fn ask<P: Planned, C: Choose>(
 ) -> Result<Answer, AllocError>
     requires count { length limits.now ≡ jobs cell.now.plan }
     requires in_range { present ≤ MAX_MOMENT }
-    ensures { IfOk result (OnNever (NoPlanKeepsFrom (stage_of cell.now.plan cell.now.cell present) limits.now)) }
+    ensures { IfOk result (OnAnsweredNever (NoPlanKeepsFrom (stage_of cell.now.plan cell.now.cell present) limits.now)) }
 {
     // Called for its clause alone: the cleanings that go on began within the limit.
     cleanings_in_range(cell);

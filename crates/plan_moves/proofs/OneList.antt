@@ -20,7 +20,7 @@ use Rattle.shop_base.proofs.OneStep.{one_step}
 use Rattle.shop_base.proofs.ControlledRuns.{after_moves-sound, after_step-sound}
 use Rattle.shop_base.proofs.InTime.{reports_later}
 use Rattle.cell_control.specs.Settled.{IsFirstMover, SettlesInOrder}
-use Rattle.plan_moves.specs.NextReports.{turn, IsNextReport, IsOver}
+use Rattle.plan_moves.specs.NextReports.{report_turn, IsNextReport, IsOver}
 use Rattle.plan_moves.specs.MovesFrom.{orders_in}
 use Rattle.plan_moves.specs.MovesLaw.{OneListOfMoves}
 use Rattle.plan_moves.proofs.GoingOn.{orders_in-moved}
@@ -46,7 +46,7 @@ one_settling p c t (i ∷ is) (j ∷ js) one other rest still =
 -- ---- which report is next
 
 -- of each turn only one activity can go on
-one_of_turn : (p : PlannedShop) (c : Cell) (a b : Activity) (d e : ℕ) → IsSound p c → GoesOn p c a d → GoesOn p c b e → turn p a ≡ turn p b → a ≡ b
+one_of_turn : (p : PlannedShop) (c : Cell) (a b : Activity) (d e : ℕ) → IsSound p c → GoesOn p c a d → GoesOn p c b e → report_turn p a ≡ report_turn p b → a ≡ b
 one_of_turn p c (Arrival i) (Arrival j) d e sound one other same = ap Arrival same
 one_of_turn p c (Arrival i) (Operation j m) d e sound one (k, other) same = absurd (omega (arith, ap (made c) same, one.outside, other.on.entered))
 one_of_turn p c (Arrival i) (Cleaning m) d e sound one other same = absurd (omega (arith, outside_in_shop p c i sound one.outside, same))
@@ -78,10 +78,10 @@ one_next p t c r q sound one other = one_report r q (one_of_turn p c (ended r) (
     when : at r ≡ at q
     when = omega (arith, one.when, other.when, one.soonest (ended q) other.due other.going, other.soonest (ended r) one.due one.going)
 
-    turns : turn p (ended r) ≡ turn p (ended q)
-    turns = elim (cases_lt (turn p (ended r)) (turn p (ended q))) [
+    turns : report_turn p (ended r) ≡ report_turn p (ended q)
+    turns = elim (cases_lt (report_turn p (ended r)) (report_turn p (ended q))) [
       | inl less ↦ absurd (omega (arith, when, one.when, other.first (ended r) one.due one.going less))
-      | inr more ↦ elim (cases_lt (turn p (ended q)) (turn p (ended r))) [
+      | inr more ↦ elim (cases_lt (report_turn p (ended q)) (report_turn p (ended r))) [
         | inl less ↦ absurd (omega (arith, when, other.when, one.first (ended q) other.due other.going less))
         | inr same ↦ omega arith
       ]

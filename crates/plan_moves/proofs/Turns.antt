@@ -15,7 +15,7 @@ use Rattle.shop_base.proofs.Ahead.{IsBusyUntil, busy_once, cleaned_once}
 use Rattle.cell_tables.specs.Readings.{IsMachineOf}
 use Rattle.cell_control.specs.Readings.{IsOnTime, IsOf, IsDueOf, IsDueOfCleaning}
 use Rattle.plan_moves.specs.declared.next_report.Soonest.{Soonest}
-use Rattle.plan_moves.specs.NextReports.{turn, IsNextReport, IsOver}
+use Rattle.plan_moves.specs.NextReports.{report_turn, IsNextReport, IsOver}
 use Rattle.plan_moves.specs.Soonest.{IsDueAt, IsDueOnlyAt, IsIdleBelow, IsTurn, IsReportAt, ComesFirst, IsPassedOver, IsFirstAt, IsSoonest}
 
 module _ (p : PlannedShop) (t : ℕ) (c : Cell) where
@@ -72,7 +72,7 @@ module _ (p : PlannedShop) (t : ℕ) (c : Cell) where
   -- ---- all turns
 
   module _ (sound : IsSound p c) where
-    turn_within : (a : Activity) (due : ℕ) → GoesOn p c a due → turn p a < jobs p + machines p
+    turn_within : (a : Activity) (due : ℕ) → GoesOn p c a due → report_turn p a < jobs p + machines p
     turn_within (Arrival j) due going = omega (arith, outside_in_shop p c j sound going.outside)
     turn_within (Operation j m) due (k, going) = omega (arith, visits_job p j k m going.on.visits)
     turn_within (Cleaning m) due (from, going) = omega (arith, cleaned_in_shop p c m from sound going.is_cleaned)
@@ -83,17 +83,17 @@ module _ (p : PlannedShop) (t : ℕ) (c : Cell) where
       where
         none_due : (m : ℕ) (a : Activity) (due : ℕ) → due < m → GoesOn p c a due → ⊥
         none_due zero a due less going = absurd (omega arith)
-        none_due (suc m) a due less going = passed (turn p a) (turn_within a due going) due (a, refl, going) (inr (λ b other goes_on. elim (cases_lt other due) [
+        none_due (suc m) a due less going = passed (report_turn p a) (turn_within a due going) due (a, refl, going) (inr (λ b other goes_on. elim (cases_lt other due) [
           | inl before ↦ absurd (none_due m b other (omega arith) goes_on)
           | inr more ↦ more
         ]))
 
     pub idle_over : IsIdleBelow p c (jobs p + machines p) → IsOver p t c
-    idle_over idle a due going = absurd (idle (turn p a) due (turn_within a due going) (a, refl, going))
+    idle_over idle a due going = absurd (idle (report_turn p a) due (turn_within a due going) (a, refl, going))
 
     module _ (s : Soonest) (soonest : IsSoonest p t c (jobs p + machines p) s) where
       pub late_over : MAX_MOMENT < s.at → IsOver p t c
-      late_over late a due going = omega (arith, late, soonest.soonest (turn p a) due (turn_within a due going) (a, refl, going))
+      late_over late a due going = omega (arith, late, soonest.soonest (report_turn p a) due (turn_within a due going) (a, refl, going))
 
       pub turn_of : IsTurn p c s.turn
       turn_of = (soonest.due, soonest.goes_on.0)
@@ -104,8 +104,8 @@ module _ (p : PlannedShop) (t : ℕ) (c : Cell) where
         going = is.going;
         when = is.at_is ∙ soonest.when ∙ ap (λ n. max n t) (sym (soonest.goes_on.1 is.due (ended r, is.turn_is, is.going)));
         range = omega (arith, is.at_is);
-        soonest = λ a other going. omega (arith, is.at_is, soonest.soonest (turn p a) other (turn_within a other going) (a, refl, going));
-        first = λ a other going less. omega (arith, is.at_is, soonest.first (turn p a) other (omega (arith, is.turn_is)) (a, refl, going));
+        soonest = λ a other going. omega (arith, is.at_is, soonest.soonest (report_turn p a) other (turn_within a other going) (a, refl, going));
+        first = λ a other going less. omega (arith, is.at_is, soonest.first (report_turn p a) other (omega (arith, is.turn_is)) (a, refl, going));
       }
 
   -- ---- what one turn has
@@ -119,13 +119,13 @@ module _ (p : PlannedShop) (t : ℕ) (c : Cell) where
   pub job_turn : (j : ℕ) (o : Option ℕ) → j < jobs p → IsDueOf p c j o → MatchOption o ((due : ℕ) → IsDueAt p c j due → ⊥) (IsDueOnlyAt p c j)
   job_turn j None inside none = λ due (a, is, going). nothing a due is going
     where
-      nothing : (a : Activity) (due : ℕ) → turn p a ≡ j → GoesOn p c a due → ⊥
+      nothing : (a : Activity) (due : ℕ) → report_turn p a ≡ j → GoesOn p c a due → ⊥
       nothing (Arrival i) due is going = none (Arrival i) due is going
       nothing (Operation i m) due is going = none (Operation i m) due is going
       nothing (Cleaning m) due is going = absurd (omega arith)
   job_turn j (Some due) inside (a, of_job, going) = (here, λ other is. busy_once p c j other due (busy_of j other inside is) (busy_of j due inside here))
     where
-      its : (a : Activity) → IsOf j a → turn p a ≡ j
+      its : (a : Activity) → IsOf j a → report_turn p a ≡ j
       its (Arrival i) is = is
       its (Operation i m) is = is
       its (Cleaning m) is = absurd is

@@ -8,10 +8,10 @@ use Rattle.shop_base.specs.Activity.{Activity, Arrival, Operation, Cleaning, Goe
 use Rattle.shop_base.specs.Report.{ended, at}
 
 -- whose turn it is of activities that are due at one moment: the jobs' in ascending order, and then the machines'
-abbrev pub turn : PlannedShop → Activity → ℕ
-turn p (Arrival j) = j
-turn p (Operation j m) = j
-turn p (Cleaning m) = jobs p + m
+abbrev pub report_turn : PlannedShop → Activity → ℕ
+report_turn p (Arrival j) = j
+report_turn p (Operation j m) = j
+report_turn p (Cleaning m) = jobs p + m
 
 module _ (p : PlannedShop) (t : ℕ) where
   -- the report comes next in cell c: when its activity is due, or at the present moment t if that is past; nothing that goes on is due earlier, and what has its turn before is due later
@@ -21,7 +21,7 @@ module _ (p : PlannedShop) (t : ℕ) where
     pub when : at r ≡ max due t
     pub range : at r ≤ MAX_MOMENT
     pub soonest : (a : Activity) (other : ℕ) → GoesOn p c a other → at r ≤ max other t
-    pub first : (a : Activity) (other : ℕ) → GoesOn p c a other → turn p a < turn p (ended r) → at r < max other t
+    pub first : (a : Activity) (other : ℕ) → GoesOn p c a other → report_turn p a < report_turn p (ended r) → at r < max other t
 
   -- nothing that goes on is due up to the latest moment
   abbrev pub IsOver : Cell → Type 0

@@ -6,13 +6,13 @@ use Rattle.shop_base.specs.Cell.{Cell}
 use Rattle.shop_base.specs.Activity.{Activity, GoesOn}
 use Rattle.shop_base.specs.Report.{ended, at}
 use Rattle.cell_control.specs.Readings.{IsOnTime}
-use Rattle.plan_moves.specs.NextReports.{turn}
+use Rattle.plan_moves.specs.NextReports.{report_turn}
 use Rattle.plan_moves.specs.declared.next_report.Soonest.{Soonest}
 
 module _ (p : PlannedShop) (c : Cell) where
   -- the activity of turn k goes on, and is due at a moment
   abbrev pub IsDueAt : ℕ → ℕ → Type 0
-  IsDueAt k due = (a : Activity) × (turn p a ≡ k) × GoesOn p c a due
+  IsDueAt k due = (a : Activity) × (report_turn p a ≡ k) × GoesOn p c a due
 
   -- it is, and at no other moment
   abbrev pub IsDueOnlyAt : ℕ → ℕ → Type 0
@@ -28,7 +28,7 @@ module _ (p : PlannedShop) (c : Cell) where
 
   -- the report says that what goes on of this turn has ended, at this moment
   pub record IsReportAt (s : Soonest) (r : Report) : Type 0 where
-    pub turn_is : turn p (ended r) ≡ s.turn
+    pub turn_is : report_turn p (ended r) ≡ s.turn
     pub at_is : at r ≡ s.at
     pub due : ℕ
     pub going : GoesOn p c (ended r) due

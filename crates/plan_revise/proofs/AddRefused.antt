@@ -8,17 +8,17 @@ use Rattle.plan_revise.specs.declared.change.ChangeFault.{ChangeFault}
 use Rattle.plan_revise.specs.declared.change.ChangeFault.TheVariants.{OddWords, BadNumber, TooManyJobs, ReleaseTooLarge, BudgetTooLarge}
 use Rattle.plan_revise.specs.declared.change.Refusal.{Refusal}
 use Rattle.plan_revise.specs.declared.change.Refusal.TheVariants.{Fault, Memory}
-use Rattle.plan_revise.specs.{Promises.no_promise, Settings.Setting, Routes.IsRouteFault, Changes.given_or, Answers.UnlessMemory}
-use Rattle.plan_revise.specs.Refusals.{IsLineFault, IsStepsFault, IsAddFault}
+use Rattle.plan_revise.specs.{Promises.no_promise, Settings.RevisionSetting, Routes.IsRouteFault, Changes.given_or, Answers.UnlessMemory}
+use Rattle.plan_revise.specs.Refusals.{IsJobLineFault, IsStepsFault, IsAddFault}
 
 -- what is wrong with the route is wrong with the steps, where there aren't too many jobs
-pub route_refused : (s : Setting) (p : PlannedShop) (steps : List Step) (release budget : ℕ) (fault : ChangeFault) → jobs p < MAX_JOBS → IsRouteFault s.plant p.shop.recirculates steps fault → IsStepsFault s p steps release budget fault
+pub route_refused : (s : RevisionSetting) (p : PlannedShop) (steps : List Step) (release budget : ℕ) (fault : ChangeFault) → jobs p < MAX_JOBS → IsRouteFault s.plant p.shop.recirculates steps fault → IsStepsFault s p steps release budget fault
 route_refused s p steps release budget TooManyJobs few is = absurd is.wrong
 route_refused s p steps release budget ReleaseTooLarge few is = absurd is.wrong
 route_refused s p steps release budget BudgetTooLarge few is = absurd is.wrong
 route_refused s p steps release budget fault few is = (few, is)
 
-module _ (s : Setting) (p : PlannedShop) (words : List ℕ) (release budget : Option ℕ) where
+module _ (s : RevisionSetting) (p : PlannedShop) (words : List ℕ) (release budget : Option ℕ) where
   -- what is wrong with the steps that the words say is wrong with adding the job
   pub steps_refused : (steps : List Step) (fault : ChangeFault) → IsJobLine (first_line words) steps
       → IsStepsFault s p steps (given_or release s.present) (given_or budget no_promise) fault → IsAddFault s p words release budget fault
@@ -27,7 +27,7 @@ module _ (s : Setting) (p : PlannedShop) (words : List ℕ) (release budget : Op
   steps_refused steps fault written is = record { steps = steps; written = written; wrong = is }
 
   -- so is what is wrong with the words
-  pub line_refused : (refusal : Refusal) → UnlessMemory (IsLineFault words) refusal → UnlessMemory (IsAddFault s p words release budget) refusal
+  pub line_refused : (refusal : Refusal) → UnlessMemory (IsJobLineFault words) refusal → UnlessMemory (IsAddFault s p words release budget) refusal
   line_refused Memory is = tt
   line_refused (Fault OddWords) is = is
   line_refused (Fault BadNumber) is = is

@@ -12,8 +12,8 @@ use Rattle.cell_tables.specs.Carried.{carried_job}
 use Rattle.cell_tables.specs.KeptLaw.{AKeptRunIsOneOfTheOtherPlan}
 use Rattle.plan_revise.specs.declared.change.Change.{Change}
 use Rattle.plan_revise.specs.declared.change.Change.TheVariants.{Until, Add, Scrap, Down}
-use Rattle.plan_revise.specs.Ended.{ended}
-use Rattle.plan_revise.specs.Settings.{Setting, setting, moves_made}
+use Rattle.plan_revise.specs.Ended.{with_job_ended}
+use Rattle.plan_revise.specs.Settings.{RevisionSetting, setting, moves_made}
 use Rattle.plan_revise.specs.Aside.{HasRoom, put_aside}
 use Rattle.plan_revise.specs.Stopped.{present_step, way_to, stopped, stopped_at, without_machine}
 use Rattle.plan_revise.specs.Revised.{AreMade}
@@ -25,7 +25,7 @@ use Rattle.plan_revise.proofs.EndedParts.{ended-ends, visits_before, mine_below}
 use Rattle.plan_revise.proofs.Revisions.{given_revision, becomes-revision, aside_places, stopped_outside, stopped_inside, stopped_at-one, stage_upto, stage_room}
 use Rattle.plan_revise.proofs.Outcomes.{run_setting, run_stays}
 
-module _ (s : Setting) (is : IsSetting s) where
+module _ (s : RevisionSetting) (is : IsSetting s) where
   -- job j has no step ahead on machine m
   abbrev IsDone : PlannedShop → ℕ → ℕ → Type 0
   IsDone p m j = (k : ℕ) → Visits p j k m → k < moves_made s j
@@ -42,16 +42,16 @@ module _ (s : Setting) (is : IsSetting s) where
   stopped-done : (p : PlannedShop) (m j n : ℕ) → IsRevision s p → j < jobs p → m < s.plant → (moves_made s j ≡ 0 → HasRoom s p) → ((k : ℕ) → k < n → Visits p j k m → k < moves_made s j) → IsDone (stopped s p j n) m j
   stopped-done p m j n revision inside in_plant room none k visits = elim (cases_eq (moves_made s j) 0) [
     | inl outside ↦ done_aside p m j revision inside in_plant outside (room outside) k (subst (λ (q : PlannedShop). Visits q j k m) (stopped_outside s p j n outside) visits)
-    | inr moved ↦ (let there : Visits (ended p j n) j k m = subst (λ (q : PlannedShop). Visits q j k m) (stopped_inside s p j n moved) visits in
+    | inr moved ↦ (let there : Visits (with_job_ended p j n) j k m = subst (λ (q : PlannedShop). Visits q j k m) (stopped_inside s p j n moved) visits in
         let ends = ended-ends p j n revision.fit inside in
-        none k (mine_below p j n (ended p j n) ends k there.within) (visits_before p j n (ended p j n) ends j k m there))
+        none k (mine_below p j n (with_job_ended p j n) ends k there.within) (visits_before p j n (with_job_ended p j n) ends j k m there))
   ]
 
   -- and one that is stopped elsewhere gets none
   stopped-keeps : (p : PlannedShop) (m j n : ℕ) → IsRevision s p → j < jobs p → m < s.plant → (moves_made s j ≡ 0 → HasRoom s p) → IsDone p m j → IsDone (stopped s p j n) m j
   stopped-keeps p m j n revision inside in_plant room done k visits = elim (cases_eq (moves_made s j) 0) [
     | inl outside ↦ done_aside p m j revision inside in_plant outside (room outside) k (subst (λ (q : PlannedShop). Visits q j k m) (stopped_outside s p j n outside) visits)
-    | inr moved ↦ done k (visits_before p j n (ended p j n) (ended-ends p j n revision.fit inside) j k m (subst (λ (q : PlannedShop). Visits q j k m) (stopped_inside s p j n moved) visits))
+    | inr moved ↦ done k (visits_before p j n (with_job_ended p j n) (ended-ends p j n revision.fit inside) j k m (subst (λ (q : PlannedShop). Visits q j k m) (stopped_inside s p j n moved) visits))
   ]
 
   stopped_at-done : (p : PlannedShop) (m j : ℕ) (found : Option ℕ) → way_to s p j m ≡ found → IsRevision s p → j < jobs p → m < s.plant → ((k : ℕ) → moves_made s j ≡ 0 → Visits p j k m → HasRoom s p) → IsDone (stopped_at s p j found) m j

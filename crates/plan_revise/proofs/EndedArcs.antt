@@ -9,7 +9,7 @@ use Rattle.shop_base.specs.Activity.{Arrival, Operation, Cleaning, GoesOn}
 use Rattle.shop_base.specs.Graph.{node, Arc, job_arc, blocking_arc, HasArc, ArcsLead, IsNode}
 use Rattle.shop_base.specs.Ahead.{PathAhead, now, held, onward, HoldsUp}
 use Rattle.plan_verifier.specs.Accepted.{HasNoCycle}
-use Rattle.plan_revise.specs.Ended.{ended}
+use Rattle.plan_revise.specs.Ended.{with_job_ended}
 use Rattle.plan_revise.specs.Fits.{IsFit}
 use Rattle.plan_revise.specs.Paths.{HasLonger}
 use Rattle.plan_revise.proofs.EndedParts.{IsRemovedAt, IsLeft, EndsOnce, step_before, steps_few, visits_before, stands_before, stands_front, stands_back, ended_by}
@@ -156,5 +156,5 @@ module _ (p : PlannedShop) (j n : ℕ) (q : PlannedShop) (fit : IsFit p) (once :
         }
 
 -- no cycle where there was none, however many steps are lost
-pub ended-no_cycle : (p : PlannedShop) (j n : ℕ) → IsFit p → j < jobs p → HasNoCycle p → HasNoCycle (ended p j n)
+pub ended-no_cycle : (p : PlannedShop) (j n : ℕ) → IsFit p → j < jobs p → HasNoCycle p → HasNoCycle (with_job_ended p j n)
 ended-no_cycle p j n fit inside acyclic = (ended_by p j fit inside HasNoCycle n acyclic (λ q r k more there fits once holds. once-no_cycle q j k r fits once holds)).1

@@ -9,14 +9,14 @@ use Rattle.shop_base.proofs.Visits.{stands_alike, stands_in_turn, stands_same, s
 use Rattle.shop_base.proofs.Counting.{count_same}
 use Rattle.plan_revise.specs.Orders.{without_last, removed}
 use Rattle.plan_revise.specs.Promises.{no_promise}
-use Rattle.plan_revise.specs.Ended.{ended}
+use Rattle.plan_revise.specs.Ended.{with_job_ended}
 use Rattle.plan_revise.specs.Fits.{IsFit}
 use Rattle.plan_revise.specs.Parts.{IsBehind, Ends}
 use Rattle.plan_revise.proofs.Places.{IsRemoved, removed-size, removed-before, removed-after, removed-count, last_taken, changed-length, changed-here, changed-there}
 use Rattle.plan_revise.proofs.Fitting.{fit-machine, fit-stands, fit-place}
 
 -- what is left and changed
-pub ended-ends : (p : PlannedShop) (j n : ℕ) → IsFit p → j < jobs p → Ends p j n (ended p j n)
+pub ended-ends : (p : PlannedShop) (j n : ℕ) → IsFit p → j < jobs p → Ends p j n (with_job_ended p j n)
 ended-ends p j n fit inside = record {
   jobs_same = length-set p.shop.routes j (take n (route p j));
   mine = get_or-set_same p.shop.routes j (take n (route p j)) [] inside;
@@ -247,24 +247,24 @@ sound_front count again n r k less sound = record {
 }
 
 module _ (p : PlannedShop) (j n : ℕ) (fit : IsFit p) (inside : j < jobs p) where
-  sound_left : (i k : ℕ) → k < steps (ended p j n) i → IsSoundStep (machines p) p.shop.recirculates (route (ended p j n) i) k
+  sound_left : (i k : ℕ) → k < steps (with_job_ended p j n) i → IsSoundStep (machines p) p.shop.recirculates (route (with_job_ended p j n) i) k
   sound_left i k within = go (cases_eq i j)
     where
-      ends : Ends p j n (ended p j n)
+      ends : Ends p j n (with_job_ended p j n)
       ends = ended-ends p j n fit inside
 
-      go : (i ≡ j) ⊎ (i ≢ j) → IsSoundStep (machines p) p.shop.recirculates (route (ended p j n) i) k
+      go : (i ≡ j) ⊎ (i ≢ j) → IsSoundStep (machines p) p.shop.recirculates (route (with_job_ended p j n) i) k
       go (inl same) =
-          let cut : route (ended p j n) i ≡ take n (route p j) = ap (route (ended p j n)) same ∙ ends.mine in
-          let size : steps (ended p j n) i ≡ min n (steps p j) = ap length cut ∙ length-take n (route p j) in
+          let cut : route (with_job_ended p j n) i ≡ take n (route p j) = ap (route (with_job_ended p j n)) same ∙ ends.mine in
+          let size : steps (with_job_ended p j n) i ≡ min n (steps p j) = ap length cut ∙ length-take n (route p j) in
           subst (λ (r : List Step). IsSoundStep (machines p) p.shop.recirculates r k) (sym cut) (sound_front (machines p) p.shop.recirculates n (route p j) k (omega (arith, size)) (fit.steps_sound j k (omega (arith, size))))
       go (inr other) =
           subst (λ (r : List Step). IsSoundStep (machines p) p.shop.recirculates r k) (sym (ends.others i other)) (fit.steps_sound i k (omega (arith, ap length (ends.others i other))))
 
-  left_fit : ((m : ℕ) → m < machines p → IsOrder (ended p j n) m) → IsFit (ended p j n)
+  left_fit : ((m : ℕ) → m < machines p → IsOrder (with_job_ended p j n) m) → IsFit (with_job_ended p j n)
   left_fit orders_left = record {
     size = rw length-set fit.size;
-    few_steps = λ i. omega (arith, steps_few p j n (ended p j n) (ended-ends p j n fit inside) i, fit.few_steps i);
+    few_steps = λ i. omega (arith, steps_few p j n (with_job_ended p j n) (ended-ends p j n fit inside) i, fit.few_steps i);
     steps_sound = sound_left;
     counts = record {
       releases = fit.counts.releases ∙ sym (length-set p.shop.routes j (take n (route p j)));
@@ -280,15 +280,15 @@ module _ (p : PlannedShop) (j n : ℕ) (fit : IsFit p) (inside : j < jobs p) whe
     orders = orders_left;
   }
     where
-      budget_left : (i : ℕ) → i < jobs p → budget (ended p j n) i ≤ no_promise
+      budget_left : (i : ℕ) → i < jobs p → budget (with_job_ended p j n) i ≤ no_promise
       budget_left i within = elim (cases_eq i j) [
-        | inl same ↦ omega (arith, ap (budget (ended p j n)) same, (ended-ends p j n fit inside).unpromised)
+        | inl same ↦ omega (arith, ap (budget (with_job_ended p j n)) same, (ended-ends p j n fit inside).unpromised)
         | inr other ↦ omega (arith, (ended-ends p j n fit inside).budgets i other, fit.limits.budgets i within)
       ]
 
 module _ (p : PlannedShop) (j : ℕ) (fit : IsFit p) (inside : j < jobs p) where
   -- where no step is behind, the orders are as they were
-  first_once : (n : ℕ) → steps p j ≤ n → EndsOnce p j n (ended p j n)
+  first_once : (n : ℕ) → steps p j ≤ n → EndsOnce p j n (with_job_ended p j n)
   first_once n all = record {
     ends = ended-ends p j n fit inside;
     orders = λ m. inl (record {
@@ -298,11 +298,11 @@ module _ (p : PlannedShop) (j : ℕ) (fit : IsFit p) (inside : j < jobs p) where
   }
 
   -- the plan in which it has one step more
-  module _ (n : ℕ) (less : n < steps p j) (fit_one : IsFit (ended p j (n + 1))) where
-    one_ends : Ends p j (n + 1) (ended p j (n + 1))
+  module _ (n : ℕ) (less : n < steps p j) (fit_one : IsFit (with_job_ended p j (n + 1))) where
+    one_ends : Ends p j (n + 1) (with_job_ended p j (n + 1))
     one_ends = ended-ends p j (n + 1) fit inside
 
-    next_ends : Ends (ended p j (n + 1)) j n (ended p j n)
+    next_ends : Ends (with_job_ended p j (n + 1)) j n (with_job_ended p j n)
     next_ends = record {
       jobs_same = ends.jobs_same ∙ sym one_ends.jobs_same;
       mine = ends.mine ∙ sym (ap (take n) one_ends.mine ∙ take-take n (n + 1) (route p j) (omega arith));
@@ -313,20 +313,20 @@ module _ (p : PlannedShop) (j : ℕ) (fit : IsFit p) (inside : j < jobs p) where
       budgets = λ i other. ends.budgets i other ∙ sym (one_ends.budgets i other);
     }
       where
-        ends : Ends p j n (ended p j n)
+        ends : Ends p j n (with_job_ended p j n)
         ends = ended-ends p j n fit inside
 
     -- its last step there is the only one behind
-    last_behind : (k : ℕ) → n ≤ k → k < steps (ended p j (n + 1)) j → k ≡ n
-    last_behind k more within = omega (arith, mine_below p j (n + 1) (ended p j (n + 1)) one_ends k within)
+    last_behind : (k : ℕ) → n ≤ k → k < steps (with_job_ended p j (n + 1)) j → k ≡ n
+    last_behind k more within = omega (arith, mine_below p j (n + 1) (with_job_ended p j (n + 1)) one_ends k within)
 
-    rest_is : (m : ℕ) → order (ended p j n) m ≡ get_or (removed j (step_at (route p j) n ∷ drop (suc n) (route p j)) p.plan.order) m []
+    rest_is : (m : ℕ) → order (with_job_ended p j n) m ≡ get_or (removed j (step_at (route p j) n ∷ drop (suc n) (route p j)) p.plan.order) m []
     rest_is m = ap (λ (steps : List Step). get_or (removed j steps p.plan.order) m []) (drop-cons (route p j) n no_step less)
 
-    one_is : (m : ℕ) → get_or (removed j (drop (suc n) (route p j)) p.plan.order) m [] ≡ order (ended p j (n + 1)) m
+    one_is : (m : ℕ) → get_or (removed j (drop (suc n) (route p j)) p.plan.order) m [] ≡ order (with_job_ended p j (n + 1)) m
     one_is m = ap (λ k. get_or (removed j (drop k (route p j)) p.plan.order) m []) (sym (add-one n))
 
-    left_out : (m : ℕ) → machine_of p j n ≡ m → IsRemovedAt (ended p j (n + 1)) j n (ended p j n) m
+    left_out : (m : ℕ) → machine_of p j n ≡ m → IsRemovedAt (with_job_ended p j (n + 1)) j n (with_job_ended p j n) m
     left_out m here = record {
       place = found.0;
       step = n;
@@ -337,31 +337,31 @@ module _ (p : PlannedShop) (j : ℕ) (fit : IsFit p) (inside : j < jobs p) where
         within = found.1.within;
         here = found.1.job;
         is = rest_is m ∙ changed-here (without_last j) (step_at (route p j) n) (drop (suc n) (route p j)) p.plan.order m (omega (arith, in_shop, fit.counts.orders)) here ∙ ap (without_last j) (one_is m)
-            ∙ last_taken j (order (ended p j (n + 1)) m) found.0 found.1.within found.1.job last;
+            ∙ last_taken j (order (with_job_ended p j (n + 1)) m) found.0 found.1.within found.1.job last;
       };
     }
       where
         in_shop : m < machines p
         in_shop = fit-machine p fit j n m (record { within = less; here = here })
 
-        found : (a : ℕ) × Stands (ended p j (n + 1)) m a j n
-        found = fit-stands (ended p j (n + 1)) fit_one j n m (visits_mine p j (n + 1) (ended p j (n + 1)) one_ends n m (omega arith) (record { within = less; here = here }))
+        found : (a : ℕ) × Stands (with_job_ended p j (n + 1)) m a j n
+        found = fit-stands (with_job_ended p j (n + 1)) fit_one j n m (visits_mine p j (n + 1) (with_job_ended p j (n + 1)) one_ends n m (omega arith) (record { within = less; here = here }))
 
-        last : (a : ℕ) → found.0 < a → a < length (order (ended p j (n + 1)) m) → job_at (ended p j (n + 1)) m a ≢ j
+        last : (a : ℕ) → found.0 < a → a < length (order (with_job_ended p j (n + 1)) m) → job_at (with_job_ended p j (n + 1)) m a ≢ j
         last a more within mine =
-            let other = fit-place (ended p j (n + 1)) fit_one m a j in_shop within mine in
-            let later : n < other.0 = stands_in_turn (ended p j (n + 1)) m found.0 a j n other.0 found.1 other.1 more in
+            let other = fit-place (with_job_ended p j (n + 1)) fit_one m a j in_shop within mine in
+            let later : n < other.0 = stands_in_turn (with_job_ended p j (n + 1)) m found.0 a j n other.0 found.1 other.1 more in
             omega (arith, later, last_behind other.0 (omega (arith, later)) other.1.visits.within)
 
-    untouched : (m : ℕ) → machine_of p j n ≢ m → IsLeft (ended p j (n + 1)) j n (ended p j n) m
+    untouched : (m : ℕ) → machine_of p j n ≢ m → IsLeft (with_job_ended p j (n + 1)) j n (with_job_ended p j n) m
     untouched m there = record {
       not_behind = λ (k, more, visits).
-          let before : Visits p j k m = visits_before p j (n + 1) (ended p j (n + 1)) one_ends j k m visits in
+          let before : Visits p j k m = visits_before p j (n + 1) (with_job_ended p j (n + 1)) one_ends j k m visits in
           there (ap (machine_of p j) (sym (last_behind k more visits.within)) ∙ before.here);
       same = rest_is m ∙ changed-there (without_last j) (step_at (route p j) n) (drop (suc n) (route p j)) p.plan.order m there ∙ one_is m;
     }
 
-    next_once : EndsOnce (ended p j (n + 1)) j n (ended p j n)
+    next_once : EndsOnce (with_job_ended p j (n + 1)) j n (with_job_ended p j n)
     next_once = record {
       ends = next_ends;
       orders = λ m. elim (cases_eq (machine_of p j n) m) [ inl here ↦ inr (left_out m here) | inr there ↦ inl (untouched m there) ];
@@ -369,27 +369,27 @@ module _ (p : PlannedShop) (j : ℕ) (fit : IsFit p) (inside : j < jobs p) where
 
   -- what holds of the plan, and is kept where the job loses a step, holds of the plan that is left
   module _ (P : PlannedShop → Type 0) (n : ℕ) (start : P p) (step : (q r : PlannedShop) (k : ℕ) → n ≤ k → j < jobs q → IsFit q → EndsOnce q j k r → P q → P r) where
-    all_lost : (k : ℕ) → n ≤ k → steps p j ≤ k → IsFit (ended p j k) × P (ended p j k)
+    all_lost : (k : ℕ) → n ≤ k → steps p j ≤ k → IsFit (with_job_ended p j k) × P (with_job_ended p j k)
     all_lost k more all =
         let once = first_once k all in
-        (left_fit p j k fit inside (once_order p j k (ended p j k) fit once), step p (ended p j k) k more inside fit once start)
+        (left_fit p j k fit inside (once_order p j k (with_job_ended p j k) fit once), step p (with_job_ended p j k) k more inside fit once start)
 
-    one_lost : (k : ℕ) → n ≤ k → k < steps p j → IsFit (ended p j (k + 1)) × P (ended p j (k + 1)) → IsFit (ended p j k) × P (ended p j k)
+    one_lost : (k : ℕ) → n ≤ k → k < steps p j → IsFit (with_job_ended p j (k + 1)) × P (with_job_ended p j (k + 1)) → IsFit (with_job_ended p j k) × P (with_job_ended p j k)
     one_lost k more less (fit_one, holds) =
         let once = next_once k less fit_one in (
-          left_fit p j k fit inside (once_order (ended p j (k + 1)) j k (ended p j k) fit_one once),
-          step (ended p j (k + 1)) (ended p j k) k more (omega (arith, length-set p.shop.routes j (take (k + 1) (route p j)))) fit_one once holds,
+          left_fit p j k fit inside (once_order (with_job_ended p j (k + 1)) j k (with_job_ended p j k) fit_one once),
+          step (with_job_ended p j (k + 1)) (with_job_ended p j k) k more (omega (arith, length-set p.shop.routes j (take (k + 1) (route p j)))) fit_one once holds,
         )
 
-    lost : (d k : ℕ) → n ≤ k → steps p j ≤ k + d → IsFit (ended p j k) × P (ended p j k)
+    lost : (d k : ℕ) → n ≤ k → steps p j ≤ k + d → IsFit (with_job_ended p j k) × P (with_job_ended p j k)
     lost zero k more enough = all_lost k more (omega arith)
     lost (suc d) k more enough = elim (cases_lt k (steps p j)) [
       | inl less ↦ one_lost k more less (lost d (k + 1) (omega arith) (omega arith))
       | inr all ↦ all_lost k more all
     ]
 
-    pub ended_by : IsFit (ended p j n) × P (ended p j n)
+    pub ended_by : IsFit (with_job_ended p j n) × P (with_job_ended p j n)
     ended_by = lost (steps p j) n (omega arith) (omega arith)
 
-  pub ended-fit : (n : ℕ) → IsFit (ended p j n)
+  pub ended-fit : (n : ℕ) → IsFit (with_job_ended p j n)
   ended-fit n = (ended_by (λ q. Unit {0}) n tt (λ q r k more there fits once holds. tt)).0

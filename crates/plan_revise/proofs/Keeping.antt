@@ -11,19 +11,19 @@ use Rattle.shop_base.specs.Plan.{PlannedShop, jobs, machines, machine_of, order,
 use Rattle.shop_base.specs.Cell.{MachineState, unused, made, entries, IsGone}
 use Rattle.shop_base.specs.Move.{IsPrefix}
 use Rattle.shop_base.proofs.Visits.{visits_job, stands_alike, stands_step}
-use Rattle.plan_revise.specs.Ended.{ended}
-use Rattle.plan_revise.specs.Settings.{Setting, moves_made}
+use Rattle.plan_revise.specs.Ended.{with_job_ended}
+use Rattle.plan_revise.specs.Settings.{RevisionSetting, moves_made}
 use Rattle.plan_revise.specs.Fits.{IsFit, IsKept, IsSetting}
 use Rattle.plan_revise.specs.Parts.{visits_in, Places}
 use Rattle.plan_revise.proofs.EndedParts.{EndsOnce, visits_others, visits_mine, ended_by}
 use Rattle.plan_revise.proofs.PlacedParts.{SameVisits, same-visits}
 
 -- a given job has made as many moves as the cell says
-pub moves_given : (s : Setting) (j : ℕ) → j < jobs s.given → moves_made s j ≡ made s.cell j
+pub moves_given : (s : RevisionSetting) (j : ℕ) → j < jobs s.given → moves_made s j ≡ made s.cell j
 moves_given s j inside = rw (lt-ltb j (jobs s.given) inside) refl
 
 -- what is given keeps its own run
-pub given_kept : (s : Setting) → IsSetting s → IsKept s s.given
+pub given_kept : (s : RevisionSetting) → IsSetting s → IsKept s s.given
 given_kept s is = record {
   jobs_there = omega arith;
   entered = λ j k made visits. visits;
@@ -33,7 +33,7 @@ given_kept s is = record {
 }
 
 -- a job that has entered a machine has made the step that it stands there for
-pub entered_moves : (s : Setting) (p : PlannedShop) → IsSetting s → IsKept s p → (m a j k : ℕ) → m < machines s.given → a < length (entries s.cell m) → Stands p m a j k → (j < jobs s.given) × (k < made s.cell j)
+pub entered_moves : (s : RevisionSetting) (p : PlannedShop) → IsSetting s → IsKept s p → (m a j k : ℕ) → m < machines s.given → a < length (entries s.cell m) → Stands p m a j k → (j < jobs s.given) × (k < made s.cell j)
 entered_moves s p is kept m a j k inside within stands =
     (visits_job s.given j found.0 m stood.visits, omega (arith, moved, stands_step p m a j k found.0 stands there))
   where
@@ -67,12 +67,12 @@ entered_moves s p is kept m a j k inside within stands =
     there = stands_alike s.given p m a j found.0 stood stands.within alike (step_kept found.0 (omega arith)).within (λ l few. (step_kept l few).here)
 
 -- nobody has entered a machine that the given shop hasn't
-pub unused_entries : (s : Setting) → IsSetting s → (m : ℕ) → machines s.given ≤ m → entries s.cell m ≡ []
+pub unused_entries : (s : RevisionSetting) → IsSetting s → (m : ℕ) → machines s.given ≤ m → entries s.cell m ≡ []
 unused_entries s is m past = ap (λ (x : MachineState). x.entries) (get_or_past s.cell.machines m unused (omega (arith, is.sound.machine_count)))
 
 -- ---- a job that ends behind what it has entered
 
-module _ (s : Setting) (p : PlannedShop) (j n : ℕ) (is : IsSetting s) (kept : IsKept s p) (behind : j < jobs s.given → made s.cell j ≤ n) where
+module _ (s : RevisionSetting) (p : PlannedShop) (j n : ℕ) (is : IsSetting s) (kept : IsKept s p) (behind : j < jobs s.given → made s.cell j ≤ n) where
   -- it hasn't entered the machines behind
   pub unentered : (m x k : ℕ) → n ≤ k → Stands p m x j k → length (entries s.cell m) ≤ x
   unentered m x k more stands = elim (cases_lt m (machines s.given)) [
@@ -83,7 +83,7 @@ module _ (s : Setting) (p : PlannedShop) (j n : ℕ) (is : IsSetting s) (kept : 
     ]
   ]
 
-module _ (s : Setting) (p : PlannedShop) (j n : ℕ) (q : PlannedShop) (is : IsSetting s) (kept : IsKept s p) (once : EndsOnce p j n q) (behind : j < jobs s.given → made s.cell j ≤ n) where
+module _ (s : RevisionSetting) (p : PlannedShop) (j n : ℕ) (q : PlannedShop) (is : IsSetting s) (kept : IsKept s p) (once : EndsOnce p j n q) (behind : j < jobs s.given → made s.cell j ≤ n) where
   begun_still : (m : ℕ) → m < machines s.given → IsPrefix (entries s.cell m) (order q m)
   begun_still m inside = elim (once.orders m) [
     | inl left ↦ (prefix.0, left.same ∙ prefix.1)
@@ -118,13 +118,13 @@ module _ (s : Setting) (p : PlannedShop) (j n : ℕ) (q : PlannedShop) (is : IsS
       ]
 
 -- however many steps it loses
-pub ends_keep : (s : Setting) (p : PlannedShop) (j n : ℕ) → IsSetting s → IsFit p → j < jobs p → IsKept s p → (j < jobs s.given → made s.cell j ≤ n) → (j < jobs s.given → IsGone s.given s.cell j → ⊥) → IsKept s (ended p j n)
+pub ends_keep : (s : RevisionSetting) (p : PlannedShop) (j n : ℕ) → IsSetting s → IsFit p → j < jobs p → IsKept s p → (j < jobs s.given → made s.cell j ≤ n) → (j < jobs s.given → IsGone s.given s.cell j → ⊥) → IsKept s (with_job_ended p j n)
 ends_keep s p j n is fit inside kept behind here =
     (ended_by p j fit inside (IsKept s) n kept (λ q r k more there fits once holds. once_keep s q j k r is holds once (λ given. omega (arith, behind given)) here)).1
 
 -- ---- a job that is placed
 
-pub places_keep : (s : Setting) (p : PlannedShop) (j : ℕ) (r : List Step) (first last : ℕ) (q : PlannedShop) → IsKept s p → Places p j r first last q → jobs p ≤ jobs q → (j < jobs s.given → made s.cell j ≡ 0) → IsKept s q
+pub places_keep : (s : RevisionSetting) (p : PlannedShop) (j : ℕ) (r : List Step) (first last : ℕ) (q : PlannedShop) → IsKept s p → Places p j r first last q → jobs p ≤ jobs q → (j < jobs s.given → made s.cell j ≡ 0) → IsKept s q
 places_keep s p j r first last q kept places more outside = record {
   jobs_there = omega (arith, kept.jobs_there);
   entered = λ i k moved visits. elim (cases_eq i j) [
@@ -145,7 +145,7 @@ places_keep s p j r first last q kept places more outside = record {
 
 -- ---- what is read the same
 
-pub same_keep : (s : Setting) (p q : PlannedShop) → IsKept s p → SameVisits p q → jobs p ≤ jobs q → ((m : ℕ) → clean q m ≡ clean p m) → IsKept s q
+pub same_keep : (s : RevisionSetting) (p q : PlannedShop) → IsKept s p → SameVisits p q → jobs p ≤ jobs q → ((m : ℕ) → clean q m ≡ clean p m) → IsKept s q
 same_keep s p q kept same more cleans = record {
   jobs_there = omega (arith, kept.jobs_there);
   entered = λ j k moved visits. same-visits p q same j k (machine_of s.given j k) (kept.entered j k moved visits);

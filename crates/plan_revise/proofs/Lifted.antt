@@ -13,11 +13,11 @@ use Rattle.shop_base.specs.Ahead.{IsAhead, RespectArcs, MeetBudgetsAhead}
 use Rattle.plan_revise.specs.declared.change.Change.{Change}
 use Rattle.plan_revise.specs.declared.change.Change.TheVariants.{Until, Add, Scrap, Down}
 use Rattle.plan_revise.specs.Promises.{no_promise}
-use Rattle.plan_revise.specs.Ended.{ended}
-use Rattle.plan_revise.specs.Settings.{Setting, moves_made}
+use Rattle.plan_revise.specs.Ended.{with_job_ended}
+use Rattle.plan_revise.specs.Settings.{RevisionSetting, moves_made}
 use Rattle.plan_revise.specs.Aside.{IsAside, aside_route, with_aside, HasRoom, put_aside}
 use Rattle.plan_revise.specs.Stopped.{present_step, way_to, stopped, stopped_at, without_machine}
-use Rattle.plan_revise.specs.Changes.{Becomes}
+use Rattle.plan_revise.specs.Changes.{IsChangedTo}
 use Rattle.plan_revise.specs.Revised.{AreMade}
 use Rattle.plan_revise.specs.Fits.{IsFit, IsRevision, IsSetting}
 use Rattle.plan_revise.specs.Parts.{Ends, Places}
@@ -39,7 +39,7 @@ pub record AreFitting (c : Cell) (p : PlannedShop) (kept : Node → ℕ) : Type 
   pub budgets : MeetBudgetsAhead p c kept
 
 -- the jobs on the machine of those that are put aside have one step each, of no time, and it isn't cleaned
-pub record IsAsideSound (s : Setting) (p : PlannedShop) : Type 0 where
+pub record IsAsideSound (s : RevisionSetting) (p : PlannedShop) : Type 0 where
   pub whole : (i k : ℕ) → Visits p i k s.plant → steps p i ≡ 1
   pub timeless : (i k : ℕ) → Visits p i k s.plant → nominal p i k ≡ 0
   pub uncleaned : clean p s.plant ≡ 0
@@ -102,7 +102,7 @@ once_fits c p j n q kept fit once inside behind f = record { arcs = arcs; budget
               ap (λ k. kept (node j k)) whole,
             )
 
-pub ended_fits : (c : Cell) (p : PlannedShop) (j n : ℕ) (kept : Node → ℕ) → IsFit p → j < jobs p → made c j ≤ n → AreFitting c p kept → AreFitting c (ended p j n) kept
+pub ended_fits : (c : Cell) (p : PlannedShop) (j n : ℕ) (kept : Node → ℕ) → IsFit p → j < jobs p → made c j ≤ n → AreFitting c p kept → AreFitting c (with_job_ended p j n) kept
 ended_fits c p j n kept fit inside behind f =
     (ended_by p j fit inside (λ q. AreFitting c q kept) n f (λ q r k more there fits once holds. once_fits c q j k r kept fits once there (omega arith) holds)).1
 
@@ -135,23 +135,23 @@ pub lifted_other : (j : ℕ) (kept : Node → ℕ) (v : Node) → v.job ≢ j �
 unfolding lifted
 lifted_other j kept v other = rw (ne_eqb v.job j other) refl
 
-module _ (s : Setting) (is : IsSetting s) (c : Cell) (top : ℕ) (moved : (j : ℕ) → j < top → made c j ≡ moves_made s j) where
+module _ (s : RevisionSetting) (is : IsSetting s) (c : Cell) (top : ℕ) (moved : (j : ℕ) → j < top → made c j ≡ moves_made s j) where
   module _ (p : PlannedShop) (j : ℕ) (revision : IsRevision s p) (inside : j < jobs p) (outside : moves_made s j ≡ 0) (room : HasRoom s p) (few_jobs : jobs p ≤ top) where
     first : HasAside s p (with_aside s p)
     first = has_aside s p revision room
 
-    ends : Ends (with_aside s p) j 0 (ended (with_aside s p) j 0)
+    ends : Ends (with_aside s p) j 0 (with_job_ended (with_aside s p) j 0)
     ends = aside_ends s p j is revision inside outside room
 
-    places : Places (ended (with_aside s p) j 0) j (aside_route s.plant) (min s.present MAX_RELEASE) no_promise (put_aside s p j)
+    places : Places (with_job_ended (with_aside s p) j 0) j (aside_route s.plant) (min s.present MAX_RELEASE) no_promise (put_aside s p j)
     places = aside_places s p j is revision inside outside room
 
     -- a visit of another job is one of before
     visit_before : (i k m : ℕ) → i ≢ j → Visits (put_aside s p j) i k m → Visits p i k m
     visit_before i k m other visits =
         same-visits_back p (with_aside s p) first.same i k m
-        (visits_before (with_aside s p) j 0 (ended (with_aside s p) j 0) ends i k m
-        (visits_others (ended (with_aside s p) j 0) j (aside_route s.plant) (min s.present MAX_RELEASE) no_promise (put_aside s p j) (aside_fit s p j is revision inside outside room) places i k m other visits))
+        (visits_before (with_aside s p) j 0 (with_job_ended (with_aside s p) j 0) ends i k m
+        (visits_others (with_job_ended (with_aside s p) j 0) j (aside_route s.plant) (min s.present MAX_RELEASE) no_promise (put_aside s p j) (aside_fit s p j is revision inside outside room) places i k m other visits))
 
     mine_step : (k : ℕ) → k < steps (put_aside s p j) j → (k ≡ 0) × (nominal (put_aside s p j) j k ≡ 0)
     mine_step k within =
@@ -181,7 +181,7 @@ module _ (s : Setting) (is : IsSetting s) (c : Cell) (top : ℕ) (moved : (j : �
     fits_first : (kept : Node → ℕ) → AreFitting c p kept → AreFitting c (with_aside s p) kept
     fits_first kept f = same_fits c p (with_aside s p) kept first.same (λ i k. ap (λ (rs : List (List Step)). (step_at (get_or rs i []) k).nominal) first.routes) first.cleans (λ i. ap (λ (xs : List ℕ). get_or xs i 0) first.releases) (ap length first.routes) (λ i. ap (λ (xs : List ℕ). get_or xs i 0) first.budgets) f
 
-    fits_then : (kept : Node → ℕ) → AreFitting c p kept → AreFitting c (ended (with_aside s p) j 0) kept
+    fits_then : (kept : Node → ℕ) → AreFitting c p kept → AreFitting c (with_job_ended (with_aside s p) j 0) kept
     fits_then kept f = ended_fits c (with_aside s p) j 0 kept first.fit (omega (arith, inside, ap length first.routes)) unmoved (fits_first kept f)
 
     on_plant : (g m : ℕ) → Visits (put_aside s p j) j g m → m ≡ s.plant
@@ -214,12 +214,12 @@ module _ (s : Setting) (is : IsSetting s) (c : Cell) (top : ℕ) (moved : (j : �
     aside_fits kept f sound = record {
       arcs = λ u v d ahead arc. elim (cases_eq v.job j) [
         | inl mine ↦ to_mine kept f sound u v d ahead arc mine
-        | inr other ↦ (let one = placed-arc (ended (with_aside s p) j 0) j (aside_route s.plant) (min s.present MAX_RELEASE) no_promise (put_aside s p j) (aside_fit s p j is revision inside outside room) places u v d arc other in
+        | inr other ↦ (let one = placed-arc (with_job_ended (with_aside s p) j 0) j (aside_route s.plant) (min s.present MAX_RELEASE) no_promise (put_aside s p j) (aside_fit s p j is revision inside outside room) places u v d arc other in
             omega (arith, (fits_then kept f).arcs u v d ahead one.1, lifted_other j kept u one.0, lifted_other j kept v other))
       ];
       budgets = λ i there here. elim (cases_eq i j) [
         | inl same ↦ omega (arith, lifted_mine j kept (leaving (put_aside s p j) i) same, ap (budget (put_aside s p j)) same, places.budget_is)
-        | inr other ↦ (let size : steps (put_aside s p j) i ≡ steps (ended (with_aside s p) j 0) i = ap length (places.others i other) in
+        | inr other ↦ (let size : steps (put_aside s p j) i ≡ steps (with_job_ended (with_aside s p) j 0) i = ap length (places.others i other) in
             omega (arith, lifted_other j kept (leaving (put_aside s p j) i) other, (fits_then kept f).budgets i (places.jobs_but i there other) (λ gone. here (omega arith)), ap (λ k. kept (node i k)) size, places.budgets i other))
       ];
     }
@@ -236,16 +236,16 @@ module _ (s : Setting) (is : IsSetting s) (c : Cell) (top : ℕ) (moved : (j : �
   lifted_not : (p : PlannedShop) (kept : Node → ℕ) → AreFitting c p kept → IsAsideSound s p → IsLifted p kept p
   lifted_not p kept f sound = record { later = kept; fits = f; sound = sound; same = λ v free. refl }
 
-  pub ended_sound : (p : PlannedShop) (j n : ℕ) → IsFit p → j < jobs p → IsAsideSound s p → IsAsideSound s (ended p j n)
+  pub ended_sound : (p : PlannedShop) (j n : ℕ) → IsFit p → j < jobs p → IsAsideSound s p → IsAsideSound s (with_job_ended p j n)
   ended_sound p j n fit inside sound =
       let ends = ended-ends p j n fit inside in
       record {
-        whole = λ i k visits. omega (arith, sound.whole i k (visits_before p j n (ended p j n) ends i k s.plant visits), steps_few p j n (ended p j n) ends i, visits.within);
-        timeless = λ i k visits. ap (λ (x : Step). x.nominal) (step_before p j n (ended p j n) ends i k visits.within).1 ∙ sound.timeless i k (visits_before p j n (ended p j n) ends i k s.plant visits);
+        whole = λ i k visits. omega (arith, sound.whole i k (visits_before p j n (with_job_ended p j n) ends i k s.plant visits), steps_few p j n (with_job_ended p j n) ends i, visits.within);
+        timeless = λ i k visits. ap (λ (x : Step). x.nominal) (step_before p j n (with_job_ended p j n) ends i k visits.within).1 ∙ sound.timeless i k (visits_before p j n (with_job_ended p j n) ends i k s.plant visits);
         uncleaned = ends.cleans s.plant ∙ sound.uncleaned;
         unpromised = λ i k visits. elim (cases_eq i j) [
-          | inl same ↦ ap (budget (ended p j n)) same ∙ ends.unpromised
-          | inr other ↦ ends.budgets i other ∙ sound.unpromised i k (visits_before p j n (ended p j n) ends i k s.plant visits)
+          | inl same ↦ ap (budget (with_job_ended p j n)) same ∙ ends.unpromised
+          | inr other ↦ ends.budgets i other ∙ sound.unpromised i k (visits_before p j n (with_job_ended p j n) ends i k s.plant visits)
         ];
       }
 
@@ -291,7 +291,7 @@ module _ (s : Setting) (is : IsSetting s) (c : Cell) (top : ℕ) (moved : (j : �
       (stopped_at_lifted (without_machine s p m n) one.later m n (way_to s (without_machine s p m n) n m) refl stage.revision (omega (arith, stage.jobs_same))
       (λ k outside there. stage_room s is p m n (without_machine s p m n) k revision stage room outside there) (omega (arith, stage.jobs_same)) one.fits one.sound)
 
-  becomes_lifted : (p : PlannedShop) (kept : Node → ℕ) (change : Change) (q : PlannedShop) → AreStops (change ∷ []) → IsRevision s p → Becomes s p change q → jobs p ≤ top → AreFitting c p kept → IsAsideSound s p → IsLifted p kept q
+  becomes_lifted : (p : PlannedShop) (kept : Node → ℕ) (change : Change) (q : PlannedShop) → AreStops (change ∷ []) → IsRevision s p → IsChangedTo s p change q → jobs p ≤ top → AreFitting c p kept → IsAsideSound s p → IsLifted p kept q
   becomes_lifted p kept (Until machine to) q stops revision made few_jobs f sound = absurd stops
   becomes_lifted p kept (Add words release budget) q stops revision made few_jobs f sound = absurd stops
   becomes_lifted p kept (Scrap j) q stops revision made few_jobs f sound = subst (IsLifted p kept) (sym made.is) (stopped_lifted p kept j (moves_made s j) revision made.in_shop (omega arith) made.room few_jobs f sound)

@@ -18,7 +18,7 @@ use Rattle.cell_tables.specs.Carried.{IsCarried, carried_cleaning}
 use Rattle.cell_tables.specs.KeptLaw.{AKeptRunIsOneOfTheOtherPlan}
 use Rattle.plan_revise.specs.declared.change.Change.{Change}
 use Rattle.plan_revise.specs.declared.change.Change.TheVariants.{Until, Add, Scrap, Down}
-use Rattle.plan_revise.specs.Settings.{Setting, setting}
+use Rattle.plan_revise.specs.Settings.{RevisionSetting, setting}
 use Rattle.plan_revise.specs.Aside.{IsPlant}
 use Rattle.plan_revise.specs.Revised.{AreMade}
 use Rattle.plan_revise.specs.Paths.{HasLonger}
@@ -30,7 +30,7 @@ use Rattle.plan_revise.proofs.RevisedLaws.{becomes-no_cycle, becomes-stays, beco
 
 -- ---- all changes
 
-module _ (s : Setting) (is : IsSetting s) where
+module _ (s : RevisionSetting) (is : IsSetting s) where
   pub made-revision : (p : PlannedShop) (changes : List Change) (q : PlannedShop) → IsRevision s p → AreMade s p changes q → IsRevision s q
   made-revision p [] q revision made = subst (IsRevision s) (sym made) revision
   made-revision p (change ∷ changes) q revision (next, one, rest) = made-revision next changes q (becomes-revision s is p change next revision one) rest

@@ -10,7 +10,7 @@ use Rattle.shop_base.specs.Plan.{PlannedShop, jobs, machines, route, steps, mach
 use Rattle.shop_base.specs.ShapeFault.{IsGoodPlace, visit_count, place_count}
 use Rattle.shop_base.proofs.{Visits.stands_alike, Counting.{count_same, count_grows}, Orders.{stands-place, none_missing, order_from_places}}
 use Rattle.plan_revise.specs.Orders.{then_last, put_last}
-use Rattle.plan_revise.specs.Placed.{placed, with_job, with_machine, with_clean_machine}
+use Rattle.plan_revise.specs.Placed.{placed, with_new_job, with_new_machine, with_clean_machine}
 use Rattle.plan_revise.specs.Changes.{lasting}
 use Rattle.plan_revise.specs.Fits.{IsFit}
 use Rattle.plan_revise.specs.Parts.{visits_in, Places, Lasts}
@@ -204,14 +204,14 @@ module _ (p q : PlannedShop) (same : SameVisits p q) where
 
 -- ---- one job more
 
-pub with_job-same : (p : PlannedShop) → SameVisits p (with_job p)
+pub with_job-same : (p : PlannedShop) → SameVisits p (with_new_job p)
 with_job-same p = record {
   lengths = λ j. ap length (default_more p.shop.routes [] j);
   machines_same = λ j k. ap (λ (r : List Step). (step_at r k).machine) (default_more p.shop.routes [] j);
   orders = λ m. refl;
 }
 
-pub with_job-fit : (p : PlannedShop) → IsFit p → jobs p < MAX_JOBS → IsFit (with_job p)
+pub with_job-fit : (p : PlannedShop) → IsFit p → jobs p < MAX_JOBS → IsFit (with_new_job p)
 with_job-fit p fit few = record {
   size = record { some_job = omega (arith, length-append p.shop.routes ([] ∷ [])); few_jobs = omega (arith, length-append p.shop.routes ([] ∷ [])); some_machine = fit.size.some_machine; few_machines = fit.size.few_machines };
   few_steps = λ j. omega (arith, ap length (default_more p.shop.routes [] j), fit.few_steps j);
@@ -227,7 +227,7 @@ with_job-fit p fit few = record {
     budgets = λ j within. bounded p.plan.budget (jobs p) MAX_MOMENT fit.counts.budgets fit.limits.budgets j;
     cleanings = fit.limits.cleanings;
   };
-  orders = λ m here. same-order p (with_job p) (with_job-same p) m (fit.orders m here);
+  orders = λ m here. same-order p (with_new_job p) (with_job-same p) m (fit.orders m here);
 }
   where
     bounded : (xs : List ℕ) (n limit : ℕ) → length xs ≡ n → ((i : ℕ) → i < n → get_or xs i 0 ≤ limit) → (i : ℕ) → get_or (xs ++ 0 ∷ []) i 0 ≤ limit
@@ -238,17 +238,17 @@ with_job-fit p fit few = record {
 
 -- ---- one machine more
 
-pub with_machine-clean : (p : PlannedShop) (m : ℕ) → clean (with_machine p) m ≡ clean p m
+pub with_machine-clean : (p : PlannedShop) (m : ℕ) → clean (with_new_machine p) m ≡ clean p m
 with_machine-clean p m = go p.plan.clean
   where
     go : (times : Option (List ℕ)) → clean_in (with_clean_machine times) m ≡ clean_in times m
     go None = refl
     go (Some times) = default_more times 0 m
 
-pub with_machine-same : (p : PlannedShop) → SameVisits p (with_machine p)
+pub with_machine-same : (p : PlannedShop) → SameVisits p (with_new_machine p)
 with_machine-same p = record { lengths = λ j. refl; machines_same = λ j k. refl; orders = λ m. default_more p.plan.order [] m }
 
-pub with_machine-fit : (p : PlannedShop) → IsFit p → machines p < MAX_MACHINES → IsFit (with_machine p)
+pub with_machine-fit : (p : PlannedShop) → IsFit p → machines p < MAX_MACHINES → IsFit (with_new_machine p)
 with_machine-fit p fit few = record {
   size = record { some_job = fit.size.some_job; few_jobs = fit.size.few_jobs; some_machine = omega arith; few_machines = omega arith };
   few_steps = fit.few_steps;
@@ -261,7 +261,7 @@ with_machine-fit p fit few = record {
   };
   limits = record { releases = fit.limits.releases; budgets = fit.limits.budgets; cleanings = λ m here. cleaning m };
   orders = λ m here. elim (cases_lt m (machines p)) [
-    | inl less ↦ same-order p (with_machine p) (with_machine-same p) m (fit.orders m less)
+    | inl less ↦ same-order p (with_new_machine p) (with_machine-same p) m (fit.orders m less)
     | inr more ↦ unvisited m more
   ];
 }
@@ -270,7 +270,7 @@ with_machine-fit p fit few = record {
     count None is = tt
     count (Some times) is = omega (arith, length-append times (0 ∷ []), is)
 
-    cleaning : (m : ℕ) → clean (with_machine p) m ≤ MAX_CLEAN
+    cleaning : (m : ℕ) → clean (with_new_machine p) m ≤ MAX_CLEAN
     cleaning m = elim (cases_lt m (machines p)) [
       | inl less ↦ omega (arith, with_machine-clean p m, fit.limits.cleanings m less)
       | inr more ↦ omega (arith, with_machine-clean p m, past p.plan.clean fit.counts.cleanings more)
@@ -280,13 +280,13 @@ with_machine-fit p fit few = record {
         past None is more = refl
         past (Some times) is more = get_or_past times m 0 (omega (arith, is))
 
-    unvisited : (m : ℕ) → machines p ≤ m → IsOrder (with_machine p) m
+    unvisited : (m : ℕ) → machines p ≤ m → IsOrder (with_new_machine p) m
     unvisited m more = record {
       on_route = λ a within. absurd (omega (arith, empty));
-      complete = λ j k visits. absurd (omega (arith, fit-machine p fit j k m (same-visits_back p (with_machine p) (with_machine-same p) j k m visits)));
+      complete = λ j k visits. absurd (omega (arith, fit-machine p fit j k m (same-visits_back p (with_new_machine p) (with_machine-same p) j k m visits)));
     }
       where
-        empty : length (order (with_machine p) m) ≡ 0
+        empty : length (order (with_new_machine p) m) ≡ 0
         empty = ap length (default_more p.plan.order [] m ∙ get_or_past p.plan.order m [] (omega (arith, fit.counts.orders)))
 
 -- ---- a step that lasts

@@ -16,12 +16,12 @@ use Rattle.plan_verifier.specs.Accepted.{HasNoCycle}
 use Rattle.plan_revise.specs.declared.change.Change.{Change}
 use Rattle.plan_revise.specs.declared.change.Change.TheVariants.{Until, Add, Scrap, Down}
 use Rattle.plan_revise.specs.Promises.{no_promise}
-use Rattle.plan_revise.specs.Ended.{ended}
-use Rattle.plan_revise.specs.Placed.{with_job, added}
-use Rattle.plan_revise.specs.Settings.{Setting, moves_made, HasLeft}
+use Rattle.plan_revise.specs.Ended.{with_job_ended}
+use Rattle.plan_revise.specs.Placed.{with_new_job, added}
+use Rattle.plan_revise.specs.Settings.{RevisionSetting, moves_made, HasLeftCell}
 use Rattle.plan_revise.specs.Aside.{aside_route, with_aside, HasRoom, put_aside}
 use Rattle.plan_revise.specs.Stopped.{present_step, way_to, stopped, stopped_at, without_machine}
-use Rattle.plan_revise.specs.Changes.{lasting, given_or, Becomes}
+use Rattle.plan_revise.specs.Changes.{lasting, given_or, IsChangedTo}
 use Rattle.plan_revise.specs.Fits.{IsFit, IsKept, IsRevision, IsSetting}
 use Rattle.plan_revise.specs.Paths.{HasLonger}
 use Rattle.plan_revise.specs.RevisedLaw.{AreOthers}
@@ -94,10 +94,10 @@ module _ (p q : PlannedShop) (same : SameVisits p q) where
 
 -- ---- no cycle comes
 
-module _ (s : Setting) (is : IsSetting s) where
+module _ (s : RevisionSetting) (is : IsSetting s) where
   aside-no_cycle : (p : PlannedShop) (j : ℕ) → IsRevision s p → j < jobs p → moves_made s j ≡ 0 → HasRoom s p → HasNoCycle p → HasNoCycle (put_aside s p j)
   aside-no_cycle p j revision inside outside room acyclic =
-      placed-no_cycle (ended (with_aside s p) j 0) j (aside_route s.plant) (min s.present MAX_RELEASE) no_promise (put_aside s p j) (aside_fit s p j is revision inside outside room) (aside_places s p j is revision inside outside room)
+      placed-no_cycle (with_job_ended (with_aside s p) j 0) j (aside_route s.plant) (min s.present MAX_RELEASE) no_promise (put_aside s p j) (aside_fit s p j is revision inside outside room) (aside_places s p j is revision inside outside room)
       (ended-no_cycle (with_aside s p) j 0 (has_aside s p revision room).fit (aside_inside s p j is revision inside outside room)
       (same-no_cycle p (with_aside s p) (has_aside s p revision room).same acyclic))
 
@@ -119,14 +119,14 @@ module _ (s : Setting) (is : IsSetting s) where
       stopped_at-no_cycle (without_machine s p m n) m n (way_to s (without_machine s p m n) n m) refl stage.revision (omega (arith, stage.jobs_same))
       (λ k outside visits. stage_room s is p m n (without_machine s p m n) k revision stage room outside visits) (without-no_cycle p m n revision (omega arith) room acyclic)
 
-  pub becomes-no_cycle : (p : PlannedShop) (change : Change) (q : PlannedShop) → IsRevision s p → Becomes s p change q → HasNoCycle p → HasNoCycle q
+  pub becomes-no_cycle : (p : PlannedShop) (change : Change) (q : PlannedShop) → IsRevision s p → IsChangedTo s p change q → HasNoCycle p → HasNoCycle q
   becomes-no_cycle p (Until machine to) q revision made acyclic =
       subst HasNoCycle (sym made.is) (same-no_cycle p (lasting p made.job made.step (to - since s.cell made.job)) (prolonged_same s is p machine to q revision made) acyclic)
   becomes-no_cycle p (Add words release budget) q revision made acyclic =
-      subst HasNoCycle (sym made.is) (placed-no_cycle (with_job p) (jobs p) made.steps (given_or release s.present) (given_or budget no_promise) (added p made.steps (given_or release s.present) (given_or budget no_promise))
+      subst HasNoCycle (sym made.is) (placed-no_cycle (with_new_job p) (jobs p) made.steps (given_or release s.present) (given_or budget no_promise) (added p made.steps (given_or release s.present) (given_or budget no_promise))
       (added_fit s is p made.steps (given_or release s.present) (given_or budget no_promise) revision made.few_jobs made.sound)
       (added_places s is p made.steps (given_or release s.present) (given_or budget no_promise) revision made.few_jobs made.sound)
-      (same-no_cycle p (with_job p) (with_job-same p) acyclic))
+      (same-no_cycle p (with_new_job p) (with_job-same p) acyclic))
   becomes-no_cycle p (Scrap j) q revision made acyclic = subst HasNoCycle (sym made.is) (stopped-no_cycle p j (moves_made s j) revision made.in_shop made.room acyclic)
   becomes-no_cycle p (Down machine) q revision made acyclic = subst HasNoCycle (sym made.is) (without-no_cycle p machine (jobs p) revision (omega arith) made.room acyclic)
 
@@ -153,11 +153,11 @@ module _ (s : Setting) (is : IsSetting s) where
             record { within = omega (arith, ap length is_route, visits.within); here = ap (λ (r : List Step). (step_at r 0).machine) is_route ∙ visits.here })
       ]
 
-      cut : moves_made s j ≢ 0 → Visits (ended p j n) i 0 s.plant
+      cut : moves_made s j ≢ 0 → Visits (with_job_ended p j n) i 0 s.plant
       cut moved = elim (cases_eq i j) [
-        | inl same ↦ subst (λ i. Visits (ended p j n) i 0 s.plant) (sym same)
-            (visits_mine p j n (ended p j n) (ended-ends p j n revision.fit inside) 0 s.plant (omega arith) (subst (λ i. Visits p i 0 s.plant) same visits))
-        | inr other ↦ visits_others p j n (ended p j n) (ended-ends p j n revision.fit inside) i 0 s.plant other visits
+        | inl same ↦ subst (λ i. Visits (with_job_ended p j n) i 0 s.plant) (sym same)
+            (visits_mine p j n (with_job_ended p j n) (ended-ends p j n revision.fit inside) 0 s.plant (omega arith) (subst (λ i. Visits p i 0 s.plant) same visits))
+        | inr other ↦ visits_others p j n (with_job_ended p j n) (ended-ends p j n revision.fit inside) i 0 s.plant other visits
       ]
 
   pub stopped_at-stays : (p : PlannedShop) (m j : ℕ) (found : Option ℕ) (i : ℕ) → way_to s p j m ≡ found → IsRevision s p → j < jobs p → ((k : ℕ) → moves_made s j ≡ 0 → Visits p j k m → HasRoom s p)
@@ -174,9 +174,9 @@ module _ (s : Setting) (is : IsSetting s) where
       (λ k outside there. stage_room s is p m n (without_machine s p m n) k revision stage room outside there) (without-stays p m n i revision (omega arith) room visits)
 
   added-others : (p : PlannedShop) (r : List Step) (release budget i : ℕ) → IsRevision s p → i < jobs p → route (added p r release budget) i ≡ route p i
-  added-others p r release budget i revision inside = get_or-set_other (with_job p).shop.routes (jobs p) i r [] (omega arith) ∙ default_more p.shop.routes [] i
+  added-others p r release budget i revision inside = get_or-set_other (with_new_job p).shop.routes (jobs p) i r [] (omega arith) ∙ default_more p.shop.routes [] i
 
-  pub becomes-stays : (p : PlannedShop) (change : Change) (q : PlannedShop) (i : ℕ) → AreOthers (change ∷ []) → IsRevision s p → Becomes s p change q → i < jobs p → Visits p i 0 s.plant → Visits q i 0 s.plant
+  pub becomes-stays : (p : PlannedShop) (change : Change) (q : PlannedShop) (i : ℕ) → AreOthers (change ∷ []) → IsRevision s p → IsChangedTo s p change q → i < jobs p → Visits p i 0 s.plant → Visits q i 0 s.plant
   becomes-stays p (Until machine to) q i others revision made inside visits = absurd others
   becomes-stays p (Add words release budget) q i others revision made inside visits =
       let same = added-others p made.steps (given_or release s.present) (given_or budget no_promise) i revision inside in
@@ -185,10 +185,10 @@ module _ (s : Setting) (is : IsSetting s) where
   becomes-stays p (Down machine) q i others revision made inside visits = subst (λ (q : PlannedShop). Visits q i 0 s.plant) (sym made.is) (without-stays p machine (jobs p) i revision (omega arith) made.room visits)
 
   -- no job is taken away
-  pub becomes-more_jobs : (p : PlannedShop) (change : Change) (q : PlannedShop) → IsRevision s p → Becomes s p change q → jobs p ≤ jobs q
+  pub becomes-more_jobs : (p : PlannedShop) (change : Change) (q : PlannedShop) → IsRevision s p → IsChangedTo s p change q → jobs p ≤ jobs q
   becomes-more_jobs p (Until machine to) q revision made = omega (arith, ap jobs made.is, prolonged_jobs s is p machine to q revision made)
   becomes-more_jobs p (Add words release budget) q revision made =
-      omega (arith, ap jobs made.is, length-set (with_job p).shop.routes (jobs p) made.steps, length-append p.shop.routes ([] ∷ []))
+      omega (arith, ap jobs made.is, length-set (with_new_job p).shop.routes (jobs p) made.steps, length-append p.shop.routes ([] ∷ []))
   becomes-more_jobs p (Scrap j) q revision made = omega (arith, ap jobs made.is, (stopped-one s p j (moves_made s j) is revision made.in_shop made.here (omega arith) made.room).jobs_same)
   becomes-more_jobs p (Down machine) q revision made = omega (arith, ap jobs made.is, (stage_upto s is p machine (jobs p) revision (omega arith) made.room).jobs_same)
 
@@ -196,7 +196,7 @@ module _ (s : Setting) (is : IsSetting s) where
 
   module _ (c : Cell) (t : ℕ) (same_entries : (m : ℕ) → entries c m ≡ entries s.cell m) where
     cut_path : (p : PlannedShop) (j n : ℕ) (fit : IsFit p) → j < jobs p → IsKept s p → (j < jobs s.given → made s.cell j ≤ n) → (j < jobs s.given → IsGone s.given s.cell j → ⊥)
-        → (nodes : List Node) (v : Node) (size : ℕ) → PathAhead (ended p j n) c t nodes v size → HasLonger p c t v size
+        → (nodes : List Node) (v : Node) (size : ℕ) → PathAhead (with_job_ended p j n) c t nodes v size → HasLonger p c t v size
     cut_path p j n fit inside kept behind here = (ended_by p j fit inside IsNoLonger n (kept, λ nodes v size path. record { nodes = nodes; size = size; path = path; longer = omega arith }) one).1.1
       where
         IsNoLonger : PlannedShop → Type 0
@@ -219,8 +219,8 @@ module _ (s : Setting) (is : IsSetting s) where
         first : HasAside s p (with_aside s p)
         first = has_aside s p revision room
 
-        one : HasLonger (ended (with_aside s p) j 0) c t v size
-        one = placed-path (ended (with_aside s p) j 0) j (aside_route s.plant) (min s.present MAX_RELEASE) no_promise (put_aside s p j)
+        one : HasLonger (with_job_ended (with_aside s p) j 0) c t v size
+        one = placed-path (with_job_ended (with_aside s p) j 0) j (aside_route s.plant) (min s.present MAX_RELEASE) no_promise (put_aside s p j)
             (aside_fit s p j is revision inside outside room) (aside_places s p j is revision inside outside room) c t nodes v size path other
 
         two : HasLonger (with_aside s p) c t v one.size
@@ -231,7 +231,7 @@ module _ (s : Setting) (is : IsSetting s) where
         three = same-path p (with_aside s p) first.same (λ i k. ap (λ (rs : List (List Step)). (step_at (get_or rs i []) k).nominal) first.routes) first.cleans
             (λ i. ap (λ (xs : List ℕ). get_or xs i 0) first.releases) c t two.nodes v two.size two.path there
 
-    stopped_path : (p : PlannedShop) (j n : ℕ) → IsRevision s p → j < jobs p → (HasLeft s p j → ⊥) → moves_made s j ≤ n → (moves_made s j ≡ 0 → HasRoom s p)
+    stopped_path : (p : PlannedShop) (j n : ℕ) → IsRevision s p → j < jobs p → (HasLeftCell s p j → ⊥) → moves_made s j ≤ n → (moves_made s j ≡ 0 → HasRoom s p)
         → (nodes : List Node) (v : Node) (size : ℕ) → PathAhead (stopped s p j n) c t nodes v size → IsFree (stopped s p j n) v.job → v.job < jobs p → HasLonger p c t v size
     stopped_path p j n revision inside here behind room nodes v size path free there = elim (cases_eq (moves_made s j) 0) [
       | inl outside ↦ (let is_aside = stopped_outside s p j n outside in
@@ -259,19 +259,19 @@ module _ (s : Setting) (is : IsSetting s) where
         (λ k outside there. stage_room s is p m n (without_machine s p m n) k revision stage room outside there) visits)) there in
         record { nodes = two.nodes; size = two.size; path = two.path; longer = omega (arith, one.longer, two.longer) }
 
-    pub becomes_path : (p : PlannedShop) (change : Change) (q : PlannedShop) → AreOthers (change ∷ []) → IsRevision s p → Becomes s p change q
+    pub becomes_path : (p : PlannedShop) (change : Change) (q : PlannedShop) → AreOthers (change ∷ []) → IsRevision s p → IsChangedTo s p change q
         → (nodes : List Node) (v : Node) (size : ℕ) → PathAhead q c t nodes v size → IsFree q v.job → v.job < jobs p → HasLonger p c t v size
     becomes_path p (Until machine to) q others revision made nodes v size path free there = absurd others
     becomes_path p (Add words release budget) q others revision made nodes v size path free there =
         record { nodes = two.nodes; size = two.size; path = two.path; longer = omega (arith, one.longer, two.longer) }
       where
-        one : HasLonger (with_job p) c t v size
-        one = placed-path (with_job p) (jobs p) made.steps (given_or release s.present) (given_or budget no_promise) (added p made.steps (given_or release s.present) (given_or budget no_promise))
+        one : HasLonger (with_new_job p) c t v size
+        one = placed-path (with_new_job p) (jobs p) made.steps (given_or release s.present) (given_or budget no_promise) (added p made.steps (given_or release s.present) (given_or budget no_promise))
             (added_fit s is p made.steps (given_or release s.present) (given_or budget no_promise) revision made.few_jobs made.sound) (added_places s is p made.steps (given_or release s.present) (given_or budget no_promise) revision made.few_jobs made.sound) c t nodes v size
             (subst (λ (q : PlannedShop). PathAhead q c t nodes v size) made.is path) (omega arith)
 
         two : HasLonger p c t v one.size
-        two = same-path p (with_job p) (with_job-same p) (λ i k. ap (λ (r : List Step). (step_at r k).nominal) (default_more p.shop.routes [] i)) (λ m. refl) (λ i. default_more p.plan.release 0 i) c t one.nodes v one.size one.path there
+        two = same-path p (with_new_job p) (with_job-same p) (λ i k. ap (λ (r : List Step). (step_at r k).nominal) (default_more p.shop.routes [] i)) (λ m. refl) (λ i. default_more p.plan.release 0 i) c t one.nodes v one.size one.path there
     becomes_path p (Scrap j) q others revision made nodes v size path free there =
         stopped_path p j (moves_made s j) revision made.in_shop made.here (omega arith) made.room nodes v size (subst (λ (q : PlannedShop). PathAhead q c t nodes v size) made.is path) (subst (λ (q : PlannedShop). IsFree q v.job) made.is free) there
     becomes_path p (Down machine) q others revision made nodes v size path free there =

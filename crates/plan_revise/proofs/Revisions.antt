@@ -11,12 +11,12 @@ use Rattle.shop_base.proofs.Visits.{visits_job}
 use Rattle.plan_revise.specs.declared.change.Change.{Change}
 use Rattle.plan_revise.specs.declared.change.Change.TheVariants.{Until, Add, Scrap, Down}
 use Rattle.plan_revise.specs.Promises.{no_promise}
-use Rattle.plan_revise.specs.Ended.{ended}
-use Rattle.plan_revise.specs.Placed.{with_job, with_machine, added}
-use Rattle.plan_revise.specs.Settings.{Setting, moves_made, HasLeft}
+use Rattle.plan_revise.specs.Ended.{with_job_ended}
+use Rattle.plan_revise.specs.Placed.{with_new_job, with_new_machine, added}
+use Rattle.plan_revise.specs.Settings.{RevisionSetting, moves_made, HasLeftCell}
 use Rattle.plan_revise.specs.Aside.{aside_route, with_aside, HasRoom, put_aside}
 use Rattle.plan_revise.specs.Stopped.{present_step, way_to, stopped, stopped_at, without_machine}
-use Rattle.plan_revise.specs.Changes.{lasting, given_or, IsProlonged, IsScrapped, IsWithout, Becomes}
+use Rattle.plan_revise.specs.Changes.{lasting, given_or, IsProlonged, IsScrapped, IsWithout, IsChangedTo}
 use Rattle.plan_revise.specs.Fits.{IsFit, IsKept, IsRevision, IsSetting}
 use Rattle.plan_revise.specs.Parts.{Ends, Places}
 use Rattle.plan_revise.specs.Stages.{IsStage}
@@ -27,7 +27,7 @@ use Rattle.plan_revise.proofs.PlacedParts.{default_more, placed-places, placed-f
 use Rattle.plan_revise.proofs.Keeping.{moves_given, given_kept, ends_keep, places_keep, same_keep}
 
 -- what is given is a revision of itself
-pub given_revision : (s : Setting) → IsSetting s → IsRevision s s.given
+pub given_revision : (s : RevisionSetting) → IsSetting s → IsRevision s s.given
 given_revision s is = record {
   fit = shaped_fits s.given is.shaped;
   some_step = λ j inside. (is.shaped.shop.routes j inside).visits_some;
@@ -42,7 +42,7 @@ given_revision s is = record {
 -- ---- a job that is put aside
 
 -- the machine of the jobs that are put aside is there
-pub record HasAside (s : Setting) (p q : PlannedShop) : Type 0 where
+pub record HasAside (s : RevisionSetting) (p q : PlannedShop) : Type 0 where
   pub fit : IsFit q
   pub same : SameVisits p q
   pub kept : IsKept s q
@@ -52,23 +52,23 @@ pub record HasAside (s : Setting) (p q : PlannedShop) : Type 0 where
   pub budgets : q.plan.budget ≡ p.plan.budget
   pub count : machines q ≡ s.plant + 1
 
-pub has_aside : (s : Setting) (p : PlannedShop) → IsRevision s p → HasRoom s p → HasAside s p (with_aside s p)
+pub has_aside : (s : RevisionSetting) (p : PlannedShop) → IsRevision s p → HasRoom s p → HasAside s p (with_aside s p)
 has_aside s p revision room = elim (cases_eq (machines p) s.plant) [
   | inl same ↦ subst (HasAside s p) (sym (brought same)) (more same)
   | inr other ↦ subst (HasAside s p) (sym (there other)) (as_is other)
 ]
   where
-    brought : machines p ≡ s.plant → with_aside s p ≡ with_machine p
+    brought : machines p ≡ s.plant → with_aside s p ≡ with_new_machine p
     brought same = rw (eq-eqb (machines p) s.plant same) refl
 
     there : machines p ≢ s.plant → with_aside s p ≡ p
     there other = rw (ne_eqb (machines p) s.plant other) refl
 
-    more : machines p ≡ s.plant → HasAside s p (with_machine p)
+    more : machines p ≡ s.plant → HasAside s p (with_new_machine p)
     more same = record {
       fit = with_machine-fit p revision.fit (omega (arith, room same));
       same = with_machine-same p;
-      kept = same_keep s p (with_machine p) revision.kept (with_machine-same p) (omega arith) (with_machine-clean p);
+      kept = same_keep s p (with_new_machine p) revision.kept (with_machine-same p) (omega arith) (with_machine-clean p);
       cleans = with_machine-clean p;
       routes = refl;
       releases = refl;
@@ -95,7 +95,7 @@ aside_way plant count again less = record { visits_some = omega arith; few_steps
     step zero within = record { in_range = less; elsewhere = λ (i, next, same). absurd (omega (arith, next)); first_visit = λ once i before same. absurd (omega arith); nominal = omega arith }
     step (suc k) within = absurd (omega arith)
 
-module _ (s : Setting) (p : PlannedShop) (j : ℕ) (is : IsSetting s) (revision : IsRevision s p) (inside : j < jobs p) (outside : moves_made s j ≡ 0) (room : HasRoom s p) where
+module _ (s : RevisionSetting) (p : PlannedShop) (j : ℕ) (is : IsSetting s) (revision : IsRevision s p) (inside : j < jobs p) (outside : moves_made s j ≡ 0) (room : HasRoom s p) where
   -- the parts by which it is put aside
   pub aside_first : HasAside s p (with_aside s p)
   aside_first = has_aside s p revision room
@@ -103,34 +103,34 @@ module _ (s : Setting) (p : PlannedShop) (j : ℕ) (is : IsSetting s) (revision 
   pub aside_inside : j < jobs (with_aside s p)
   aside_inside = omega (arith, ap length aside_first.routes)
 
-  pub aside_ends : Ends (with_aside s p) j 0 (ended (with_aside s p) j 0)
+  pub aside_ends : Ends (with_aside s p) j 0 (with_job_ended (with_aside s p) j 0)
   aside_ends = ended-ends (with_aside s p) j 0 aside_first.fit aside_inside
 
-  pub aside_fit : IsFit (ended (with_aside s p) j 0)
+  pub aside_fit : IsFit (with_job_ended (with_aside s p) j 0)
   aside_fit = ended-fit (with_aside s p) j aside_first.fit aside_inside 0
 
-  pub aside_places : Places (ended (with_aside s p) j 0) j (aside_route s.plant) (min s.present MAX_RELEASE) no_promise (put_aside s p j)
-  aside_places = placed-places (ended (with_aside s p) j 0) j (aside_route s.plant) (min s.present MAX_RELEASE) no_promise aside_fit
+  pub aside_places : Places (with_job_ended (with_aside s p) j 0) j (aside_route s.plant) (min s.present MAX_RELEASE) no_promise (put_aside s p j)
+  aside_places = placed-places (with_job_ended (with_aside s p) j 0) j (aside_route s.plant) (min s.present MAX_RELEASE) no_promise aside_fit
       (omega (arith, aside_inside, aside_ends.jobs_same)) aside_ends.mine (aside_way s.plant (machines (with_aside s p)) (with_aside s p).shop.recirculates (omega (arith, aside_first.count)))
 
   not_moved : j < jobs s.given → made s.cell j ≡ 0
   not_moved given = sym (moves_given s j given) ∙ outside
 
   pub aside_jobs : jobs (put_aside s p j) ≡ jobs p
-  aside_jobs = length-set (ended (with_aside s p) j 0).shop.routes j (aside_route s.plant) ∙ aside_ends.jobs_same ∙ ap length aside_first.routes
+  aside_jobs = length-set (with_job_ended (with_aside s p) j 0).shop.routes j (aside_route s.plant) ∙ aside_ends.jobs_same ∙ ap length aside_first.routes
 
   pub aside_others : (i : ℕ) → i ≢ j → route (put_aside s p j) i ≡ route p i
   aside_others i other = aside_places.others i other ∙ aside_ends.others i other ∙ ap (λ (rs : List (List Step)). get_or rs i []) aside_first.routes
 
   pub aside_revision : IsRevision s (put_aside s p j)
   aside_revision = record {
-    fit = placed-fit (ended (with_aside s p) j 0) j (aside_route s.plant) (min s.present MAX_RELEASE) no_promise aside_fit
+    fit = placed-fit (with_job_ended (with_aside s p) j 0) j (aside_route s.plant) (min s.present MAX_RELEASE) no_promise aside_fit
         (omega (arith, aside_inside, aside_ends.jobs_same)) aside_ends.mine (aside_way s.plant (machines (with_aside s p)) (with_aside s p).shop.recirculates (omega (arith, aside_first.count))) (omega arith) (omega arith);
     some_step = λ i within. elim (cases_eq i j) [
       | inl same ↦ omega (arith, ap (steps (put_aside s p j)) same, ap length aside_places.route_is)
       | inr other ↦ omega (arith, ap length (aside_others i other), revision.some_step i (omega (arith, aside_jobs)))
     ];
-    kept = places_keep s (ended (with_aside s p) j 0) j (aside_route s.plant) (min s.present MAX_RELEASE) no_promise (put_aside s p j)
+    kept = places_keep s (with_job_ended (with_aside s p) j 0) j (aside_route s.plant) (min s.present MAX_RELEASE) no_promise (put_aside s p j)
         (ends_keep s (with_aside s p) j 0 is aside_first.fit aside_inside aside_first.kept (λ given. omega (arith, not_moved given)) (λ given gone. omega (arith, not_moved given)))
         aside_places (omega (arith, aside_jobs, aside_ends.jobs_same, ap length aside_first.routes)) not_moved;
     no_fewer = elim (given_revision s is).plant [ inl whole ↦ omega (arith, aside_first.count) | inr more ↦ omega (arith, aside_first.count) ];
@@ -138,7 +138,7 @@ module _ (s : Setting) (p : PlannedShop) (j : ℕ) (is : IsSetting s) (revision 
   }
 
 -- a job has made no more moves than its steps, and its leaving
-pub moves_few : (s : Setting) (p : PlannedShop) (j : ℕ) → IsSetting s → IsRevision s p → moves_made s j ≤ steps p j + 1
+pub moves_few : (s : RevisionSetting) (p : PlannedShop) (j : ℕ) → IsSetting s → IsRevision s p → moves_made s j ≤ steps p j + 1
 moves_few s p j is revision = elim (cases_lt j (jobs s.given)) [
   | inr past ↦ omega (arith, ap (λ b. if b then made s.cell j else 0) (le-ltb j (jobs s.given) past))
   | inl inside ↦ elim (cases_lt (steps s.given j) (made s.cell j)) [
@@ -153,20 +153,20 @@ moves_few s p j is revision = elim (cases_lt j (jobs s.given)) [
 
 -- ---- a job that is stopped
 
-pub stopped_outside : (s : Setting) (p : PlannedShop) (j n : ℕ) → moves_made s j ≡ 0 → stopped s p j n ≡ put_aside s p j
+pub stopped_outside : (s : RevisionSetting) (p : PlannedShop) (j n : ℕ) → moves_made s j ≡ 0 → stopped s p j n ≡ put_aside s p j
 stopped_outside s p j n outside = rw (eq-eqb (moves_made s j) 0 outside) refl
 
-pub stopped_inside : (s : Setting) (p : PlannedShop) (j n : ℕ) → moves_made s j ≢ 0 → stopped s p j n ≡ ended p j n
+pub stopped_inside : (s : RevisionSetting) (p : PlannedShop) (j n : ℕ) → moves_made s j ≢ 0 → stopped s p j n ≡ with_job_ended p j n
 stopped_inside s p j n moved = rw (ne_eqb (moves_made s j) 0 moved) refl
 
 -- what stopping one job leaves
-pub record IsOneStopped (s : Setting) (p : PlannedShop) (j : ℕ) (q : PlannedShop) : Type 0 where
+pub record IsOneStopped (s : RevisionSetting) (p : PlannedShop) (j : ℕ) (q : PlannedShop) : Type 0 where
   pub revision : IsRevision s q
   pub jobs_same : jobs q ≡ jobs p
   pub others : (i : ℕ) → i ≢ j → route q i ≡ route p i
   pub more_machines : machines p ≤ machines q
 
-pub stopped-one : (s : Setting) (p : PlannedShop) (j n : ℕ) → IsSetting s → IsRevision s p → j < jobs p → (HasLeft s p j → ⊥) → moves_made s j ≤ n → (moves_made s j ≡ 0 → HasRoom s p) → IsOneStopped s p j (stopped s p j n)
+pub stopped-one : (s : RevisionSetting) (p : PlannedShop) (j n : ℕ) → IsSetting s → IsRevision s p → j < jobs p → (HasLeftCell s p j → ⊥) → moves_made s j ≤ n → (moves_made s j ≡ 0 → HasRoom s p) → IsOneStopped s p j (stopped s p j n)
 stopped-one s p j n is revision inside here behind room = elim (cases_eq (moves_made s j) 0) [
   | inl outside ↦ subst (IsOneStopped s p j) (sym (stopped_outside s p j n outside)) (record {
     revision = aside_revision s p j is revision inside outside (room outside);
@@ -186,14 +186,14 @@ stopped-one s p j n is revision inside here behind room = elim (cases_eq (moves_
     count (inl same) = omega arith
     count (inr more) = omega arith
 
-    ends : Ends p j n (ended p j n)
+    ends : Ends p j n (with_job_ended p j n)
     ends = ended-ends p j n revision.fit inside
 
-    cut : moves_made s j ≢ 0 → IsRevision s (ended p j n)
+    cut : moves_made s j ≢ 0 → IsRevision s (with_job_ended p j n)
     cut moved = record {
       fit = ended-fit p j revision.fit inside n;
       some_step = λ i within. elim (cases_eq i j) [
-        | inl same ↦ omega (arith, ap (steps (ended p j n)) same, ap length ends.mine, length-take n (route p j), revision.some_step j inside)
+        | inl same ↦ omega (arith, ap (steps (with_job_ended p j n)) same, ap length ends.mine, length-take n (route p j), revision.some_step j inside)
         | inr other ↦ omega (arith, ap length (ends.others i other), revision.some_step i (omega (arith, ends.jobs_same)))
       ];
       kept = ends_keep s p j n is revision.fit inside revision.kept (λ given. omega (arith, moves_given s j given)) (λ given gone. here (omega (arith, moves_given s j given, revision.kept.left j given gone)));
@@ -203,7 +203,7 @@ stopped-one s p j n is revision inside here behind room = elim (cases_eq (moves_
 
 -- ---- all jobs but some stopped at a machine
 
-pub stage_first : (s : Setting) (p : PlannedShop) (m : ℕ) → IsRevision s p → IsStage s p m 0 p
+pub stage_first : (s : RevisionSetting) (p : PlannedShop) (m : ℕ) → IsRevision s p → IsStage s p m 0 p
 stage_first s p m revision = record {
   is = refl;
   revision = revision;
@@ -213,7 +213,7 @@ stage_first s p m revision = record {
   room = λ j k less. absurd (omega arith);
 }
 
-module _ (s : Setting) (is : IsSetting s) where
+module _ (s : RevisionSetting) (is : IsSetting s) where
   -- one more job stopped at the machine
   pub stopped_at-one : (p : PlannedShop) (m j : ℕ) (found : Option ℕ) → way_to s p j m ≡ found → IsRevision s p → j < jobs p → ((k : ℕ) → moves_made s j ≡ 0 → Visits p j k m → HasRoom s p) → IsOneStopped s p j (stopped_at s p j found)
   stopped_at-one p m j None is_none revision inside room = record { revision = revision; jobs_same = refl; others = λ i other. refl; more_machines = omega arith }
@@ -274,10 +274,10 @@ module _ (s : Setting) (is : IsSetting s) where
     })
 
   module _ (p : PlannedShop) (r : List Step) (release budget : ℕ) (revision : IsRevision s p) (few : jobs p < MAX_JOBS) (sound : IsRoute s.plant p.shop.recirculates r) where
-    pub added_inside : jobs p < jobs (with_job p)
+    pub added_inside : jobs p < jobs (with_new_job p)
     added_inside = omega (arith, length-append p.shop.routes ([] ∷ []))
 
-    pub added_none : route (with_job p) (jobs p) ≡ []
+    pub added_none : route (with_new_job p) (jobs p) ≡ []
     added_none = default_more p.shop.routes [] (jobs p) ∙ get_or_past p.shop.routes (jobs p) [] (omega arith)
 
     pub added_way : IsRoute (machines p) p.shop.recirculates r
@@ -288,22 +288,22 @@ module _ (s : Setting) (is : IsSetting s) where
             let one = sound.steps k less in
             record { in_range = elim revision.plant [ inl same ↦ omega (arith, one.in_range) | inr more ↦ omega (arith, one.in_range) ]; elsewhere = one.elsewhere; first_visit = one.first_visit; nominal = one.nominal }
 
-    pub added_fit : IsFit (with_job p)
+    pub added_fit : IsFit (with_new_job p)
     added_fit = with_job-fit p revision.fit few
 
-    pub added_places : Places (with_job p) (jobs p) r release budget (added p r release budget)
-    added_places = placed-places (with_job p) (jobs p) r release budget added_fit added_inside added_none added_way
+    pub added_places : Places (with_new_job p) (jobs p) r release budget (added p r release budget)
+    added_places = placed-places (with_new_job p) (jobs p) r release budget added_fit added_inside added_none added_way
 
     pub added-revision : release ≤ MAX_RELEASE → budget ≤ MAX_MOMENT → IsRevision s (added p r release budget)
     added-revision early in_range = record {
-      fit = placed-fit (with_job p) (jobs p) r release budget added_fit added_inside added_none added_way early in_range;
+      fit = placed-fit (with_new_job p) (jobs p) r release budget added_fit added_inside added_none added_way early in_range;
       some_step = λ j there. elim (cases_eq j (jobs p)) [
         | inl same ↦ omega (arith, ap (steps (added p r release budget)) same, ap length added_places.route_is, sound.visits_some)
         | inr other ↦ omega (arith, ap length (added_places.others j other), (with_job-same p).lengths j, revision.some_step j (omega (arith, added_places.jobs_but j there other, length-append p.shop.routes ([] ∷ []), other)))
       ];
-      kept = places_keep s (with_job p) (jobs p) r release budget (added p r release budget)
-          (same_keep s p (with_job p) revision.kept (with_job-same p) (omega (arith, added_inside)) (λ m. refl)) added_places
-          (omega (arith, length-set (with_job p).shop.routes (jobs p) r)) (λ given. absurd (omega (arith, revision.kept.jobs_there)));
+      kept = places_keep s (with_new_job p) (jobs p) r release budget (added p r release budget)
+          (same_keep s p (with_new_job p) revision.kept (with_job-same p) (omega (arith, added_inside)) (λ m. refl)) added_places
+          (omega (arith, length-set (with_new_job p).shop.routes (jobs p) r)) (λ given. absurd (omega (arith, revision.kept.jobs_there)));
       no_fewer = revision.no_fewer;
       plant = revision.plant;
     }
@@ -334,7 +334,7 @@ module _ (s : Setting) (is : IsSetting s) where
   without-revision p m q revision made = subst (IsRevision s) (sym made.is) (stage_upto p m (jobs p) revision (omega arith) made.room).revision
 
   -- each change keeps all this
-  pub becomes-revision : (p : PlannedShop) (change : Change) (q : PlannedShop) → IsRevision s p → Becomes s p change q → IsRevision s q
+  pub becomes-revision : (p : PlannedShop) (change : Change) (q : PlannedShop) → IsRevision s p → IsChangedTo s p change q → IsRevision s q
   becomes-revision p (Until machine to) q revision made = prolonged-revision p machine to q revision made
   becomes-revision p (Add words release budget) q revision made =
       subst (IsRevision s) (sym made.is) (added-revision p made.steps (given_or release s.present) (given_or budget no_promise) revision made.few_jobs made.sound made.release_in_range made.budget_in_range)

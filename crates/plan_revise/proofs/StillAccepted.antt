@@ -16,15 +16,15 @@ use Rattle.shop_base.proofs.Visits.{visits_job, visits_or_not}
 use Rattle.cell_tables.specs.KeptLaw.{AKeptRunIsOneOfTheOtherPlan}
 use Rattle.plan_revise.specs.declared.change.Change.{Change}
 use Rattle.plan_revise.specs.declared.change.Change.TheVariants.{Until, Add, Scrap, Down}
-use Rattle.plan_revise.specs.Ended.{ended}
-use Rattle.plan_revise.specs.Settings.{Setting, setting, moves_made}
+use Rattle.plan_revise.specs.Ended.{with_job_ended}
+use Rattle.plan_revise.specs.Settings.{RevisionSetting, setting, moves_made}
 use Rattle.plan_revise.specs.Aside.{HasRoom, put_aside}
 use Rattle.plan_revise.specs.Stopped.{present_step, way_to, stopped, stopped_at, without_machine}
-use Rattle.plan_revise.specs.Changes.{Becomes}
+use Rattle.plan_revise.specs.Changes.{IsChangedTo}
 use Rattle.plan_revise.specs.Revised.{AreMade}
 use Rattle.plan_revise.specs.Fits.{IsRevision, IsSetting}
 use Rattle.plan_revise.specs.Stages.{IsStage}
-use Rattle.plan_revise.specs.RevisedLaw.{AreStops, AcceptedRestsStayAccepted}
+use Rattle.plan_revise.specs.RevisedLaw.{AreStops, RevisedRestsStayAccepted}
 use Rattle.plan_revise.proofs.Ways.{way_visits}
 use Rattle.plan_revise.proofs.EndedParts.{ended-ends}
 use Rattle.plan_revise.proofs.RevisedLaws.{becomes-more_jobs}
@@ -36,22 +36,22 @@ use Rattle.plan_revise.proofs.Sooner.{moves_there}
 -- ---- what stopping jobs leaves of the jobs that are put aside, and of budgets
 
 -- no job comes or goes, the jobs that are put aside stay what they are, and no budget falls
-record IsStep (s : Setting) (p q : PlannedShop) : Type 0 where
+record IsStep (s : RevisionSetting) (p q : PlannedShop) : Type 0 where
   jobs_same : jobs q ≡ jobs p
   sound : IsAsideSound s p → IsAsideSound s q
   rises : (i : ℕ) → i < jobs p → budget p i ≤ budget q i
 
-no_step : (s : Setting) (p : PlannedShop) → IsStep s p p
+no_step : (s : RevisionSetting) (p : PlannedShop) → IsStep s p p
 no_step s p = record { jobs_same = refl; sound = λ sound. sound; rises = λ i inside. omega arith }
 
-steps_join : (s : Setting) (p q r : PlannedShop) → IsStep s p q → IsStep s q r → IsStep s p r
+steps_join : (s : RevisionSetting) (p q r : PlannedShop) → IsStep s p q → IsStep s q r → IsStep s p r
 steps_join s p q r one next = record {
   jobs_same = next.jobs_same ∙ one.jobs_same;
   sound = λ sound. next.sound (one.sound sound);
   rises = λ i inside. omega (arith, one.rises i inside, next.rises i (omega (arith, one.jobs_same)));
 }
 
-module _ (s : Setting) (is : IsSetting s) (c : Cell) (top : ℕ) (moved : (j : ℕ) → j < top → made c j ≡ moves_made s j) where
+module _ (s : RevisionSetting) (is : IsSetting s) (c : Cell) (top : ℕ) (moved : (j : ℕ) → j < top → made c j ≡ moves_made s j) where
   stopped_step : (p : PlannedShop) (j n : ℕ) → IsRevision s p → j < jobs p → (moves_made s j ≡ 0 → HasRoom s p) → jobs p ≤ top → IsStep s p (stopped s p j n)
   stopped_step p j n revision inside room few = elim (cases_eq (moves_made s j) 0) [
     | inl outside ↦ subst (IsStep s p) (sym (stopped_outside s p j n outside)) (aside outside)
@@ -72,14 +72,14 @@ module _ (s : Setting) (is : IsSetting s) (c : Cell) (top : ℕ) (moved : (j : �
             ];
           }
 
-      cut : IsStep s p (ended p j n)
+      cut : IsStep s p (with_job_ended p j n)
       cut =
           let ends = ended-ends p j n revision.fit inside in
           record {
             jobs_same = ends.jobs_same;
             sound = ended_sound s is c top moved p j n revision.fit inside;
             rises = λ i within. elim (cases_eq i j) [
-              | inl same ↦ omega (arith, revision.fit.limits.budgets i within, ap (budget (ended p j n)) same, ends.unpromised)
+              | inl same ↦ omega (arith, revision.fit.limits.budgets i within, ap (budget (with_job_ended p j n)) same, ends.unpromised)
               | inr other ↦ omega (arith, ends.budgets i other)
             ];
           }
@@ -97,7 +97,7 @@ module _ (s : Setting) (is : IsSetting s) (c : Cell) (top : ℕ) (moved : (j : �
       (stopped_at_step (without_machine s p m n) m n (way_to s (without_machine s p m n) n m) refl stage.revision (omega (arith, stage.jobs_same))
       (λ k outside there. stage_room s is p m n (without_machine s p m n) k revision stage room outside there) (omega (arith, stage.jobs_same)))
 
-  becomes_step : (p : PlannedShop) (change : Change) (q : PlannedShop) → AreStops (change ∷ []) → IsRevision s p → Becomes s p change q → jobs p ≤ top → IsStep s p q
+  becomes_step : (p : PlannedShop) (change : Change) (q : PlannedShop) → AreStops (change ∷ []) → IsRevision s p → IsChangedTo s p change q → jobs p ≤ top → IsStep s p q
   becomes_step p (Until machine to) q stops revision made few = absurd stops
   becomes_step p (Add words release budget) q stops revision made few = absurd stops
   becomes_step p (Scrap j) q stops revision made few = subst (IsStep s p) (sym made.is) (stopped_step p j (moves_made s j) revision made.in_shop made.room few)
@@ -115,7 +115,7 @@ module _ (s : Setting) (is : IsSetting s) (c : Cell) (top : ℕ) (moved : (j : �
 -- ---- a job that is put aside is never late
 
 -- the moments of a path ahead to a node of a job that is put aside are within the greatest one
-aside_short : (s : Setting) (q : PlannedShop) (c : Cell) (t : ℕ) → IsWellShaped q → IsSound q c → IsAsideSound s q → t ≤ MAX_MOMENT → (nodes : List Node) (v : Node) (n : ℕ) → PathAhead q c t nodes v n → Visits q v.job 0 s.plant → n ≤ MAX_MOMENT
+aside_short : (s : RevisionSetting) (q : PlannedShop) (c : Cell) (t : ℕ) → IsWellShaped q → IsSound q c → IsAsideSound s q → t ≤ MAX_MOMENT → (nodes : List Node) (v : Node) (n : ℕ) → PathAhead q c t nodes v n → Visits q v.job 0 s.plant → n ≤ MAX_MOMENT
 aside_short s q c t shaped sound aside soon _ _ _ (now v is ahead) visits = soon
 aside_short s q c t shaped sound aside soon _ _ _ (held (Arrival i) due v goes holds) visits =
     omega (arith, goes.is_due, shaped.limits.releases i (omega (arith, visits_job q v.job 0 s.plant visits, ap (λ (w : Node). w.job) holds)))
@@ -142,7 +142,7 @@ aside_short s q c t shaped sound aside soon _ _ _ (onward nodes u v n d path arc
 
 -- ---- an accepted rest stays accepted
 
-pub still_accepted : AKeptRunIsOneOfTheOtherPlan → AcceptedRestsStayAccepted
+pub still_accepted : AKeptRunIsOneOfTheOtherPlan → RevisedRestsStayAccepted
 still_accepted kept p q es t changes r stops soon accepted = record {
   acyclic = λ (nodes, cycle). no_cycle p q es t changes r (λ others ring. accepted.acyclic (others, ring)) nodes cycle;
   budgets = λ j there here nodes n path. within j there here nodes n path (visits_or_not q j 0 r.revised.plant);

@@ -7,7 +7,7 @@ use Rattle.std.proofs.lemmas.List.Quantifiers.{position-Some}
 use Rattle.shop_base.specs.declared.shop.Step.{Step}
 use Rattle.shop_base.specs.Shop.{step_at, no_step}
 use Rattle.shop_base.specs.Plan.{PlannedShop, route, machine_of, Visits}
-use Rattle.plan_revise.specs.Settings.{Setting, moves_made}
+use Rattle.plan_revise.specs.Settings.{RevisionSetting, moves_made}
 use Rattle.plan_revise.specs.Stopped.{present_step, way_to, stopped, stopped_at}
 
 -- where no element passes, all of them don't
@@ -30,7 +30,7 @@ not_on m r none k within here = go (cases_lt (position_or_len (λ (step : Step).
     go (inl less) = let some = rw (lt-ltb (position_or_len (λ (step : Step). eqb step.machine m) r) (length r) less) at none in found some
     go (inr all) = none_pass (λ (step : Step). eqb step.machine m) r no_step all k within (eq-eqb (step_at r k).machine m here)
 
-module _ (s : Setting) (p : PlannedShop) (m j : ℕ) where
+module _ (s : RevisionSetting) (p : PlannedShop) (m j : ℕ) where
   -- what is left of the route, from that step on
   abbrev left : List Step
   left = drop (present_step s j) (route p j)
@@ -72,6 +72,6 @@ module _ (s : Setting) (p : PlannedShop) (m j : ℕ) where
       (machine_left (k - present_step s j) ∙ ap (machine_of p j) back ∙ visits.here)
 
 -- where a job comes to a machine it is stopped
-pub stop_way : (s : Setting) (p : PlannedShop) (j m made further n : ℕ) → way_to s p j m ≡ Some further → made ≡ moves_made s j → n ≡ max (made - 1 + further) made → stopped s p j n ≡ stopped_at s p j (way_to s p j m)
+pub stop_way : (s : RevisionSetting) (p : PlannedShop) (j m made further n : ℕ) → way_to s p j m ≡ Some further → made ≡ moves_made s j → n ≡ max (made - 1 + further) made → stopped s p j n ≡ stopped_at s p j (way_to s p j m)
 stop_way s p j m made further n found is count =
     ap (stopped s p j) (count ∙ ap (λ k. max (k - 1 + further) k) is) ∙ sym (ap (λ way. stopped_at s p j way) found)

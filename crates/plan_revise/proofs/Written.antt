@@ -20,13 +20,13 @@ use Rattle.plan_revise.specs.declared.change.Refusal.{Refusal}
 use Rattle.plan_revise.specs.declared.change.Refusal.TheVariants.{Fault, Memory}
 use Rattle.plan_revise.specs.Orders.{changed_at, removed, put_last}
 use Rattle.plan_revise.specs.Promises.{no_promise}
-use Rattle.plan_revise.specs.Ended.{ended}
+use Rattle.plan_revise.specs.Ended.{with_job_ended}
 use Rattle.plan_revise.specs.Placed.{placed}
 use Rattle.plan_revise.specs.Aside.{IsAside, IsAsideJob, IsPlant, HasRoom}
-use Rattle.plan_revise.specs.Changes.{lasting, Becomes, IsScrapped}
-use Rattle.plan_revise.specs.Refusals.{IsRefused}
-use Rattle.plan_revise.specs.Revised.{AreMade, IsRevised, IsReason}
-use Rattle.plan_revise.specs.Settings.{Setting, setting, moves_made, IsAtWork}
+use Rattle.plan_revise.specs.Changes.{lasting, IsChangedTo, IsScrapped}
+use Rattle.plan_revise.specs.Refusals.{IsRefusedChange}
+use Rattle.plan_revise.specs.Revised.{AreMade, IsRevised, IsReasonNotRevised}
+use Rattle.plan_revise.specs.Settings.{RevisionSetting, setting, moves_made, OperationGoesOn}
 use Rattle.plan_revise.specs.Stopped.{stopped}
 use Rattle.plan_revise.specs.Fits.{IsSetting}
 use Rattle.plan_revise.specs.Answers.{UnlessMemory, ParsesFirst, refused_at}
@@ -58,7 +58,7 @@ changed_step f steps rows i m old new total within here inside read written so_f
     ∙ so_far
 
 pub draft_ended : (p : PlannedShop) (j n : ℕ) (routes : List (List Step)) (orders : List (List ℕ)) → routes ≡ set p.shop.routes j (take n (route p j)) → orders ≡ removed j (drop n (route p j)) p.plan.order
-    → record p { shop = record p.shop { routes = routes }; plan = record p.plan { budget = set p.plan.budget j no_promise; order = orders } } ≡ ended p j n
+    → record p { shop = record p.shop { routes = routes }; plan = record p.plan { budget = set p.plan.budget j no_promise; order = orders } } ≡ with_job_ended p j n
 draft_ended p j n routes orders cut out = rw (cut, out) refl
 
 pub draft_placed : (p : PlannedShop) (j : ℕ) (mine : List Step) (first last : ℕ) (routes : List (List Step)) (orders : List (List ℕ)) → routes ≡ set p.shop.routes j mine → orders ≡ put_last j mine p.plan.order
@@ -80,11 +80,11 @@ reason_more One Other more (Err (Fault fault)) why = more fault why
 reason_more One Other more (Err Memory) why = tt
 
 -- the step that goes on is the one that the job's last move began
-pub work_at : (s : Setting) (j k m : ℕ) → IsAtWork s j k m → moves_made s j - 1 ≡ k
+pub work_at : (s : RevisionSetting) (j k m : ℕ) → OperationGoesOn s j k m → moves_made s j - 1 ≡ k
 work_at s j k m work = rw (lt-ltb j (jobs s.given) (visits_job s.given j k m work.on.visits)) (let entered = work.on.entered in omega (arith, entered))
 
 -- a job that is stopped where it is, is scrapped
-pub scrap_made : {X : Type 0} (s : Setting) (p q : PlannedShop) (j : ℕ) → j < jobs p → moves_made s j ≤ steps p j → (answer : Result X Refusal)
+pub scrap_made : {X : Type 0} (s : RevisionSetting) (p q : PlannedShop) (j : ℕ) → j < jobs p → moves_made s j ≤ steps p j → (answer : Result X Refusal)
     → OnOk answer (q ≡ stopped s p j (moves_made s j)) → OnOk answer (moves_made s j ≡ 0 → HasRoom s p) → OnOk answer (IsScrapped s p j q)
 scrap_made s p q j inside here (Ok x) is room = record { in_shop = inside; here = λ left. omega (arith, here, left); room = room; is = is }
 scrap_made s p q j inside here (Err refusal) is room = tt
@@ -96,16 +96,16 @@ listed_job p m a shaped inside within = let found = (shaped.orders m inside).on_
 -- ---- who is at work on a machine
 
 -- where the job on a machine is ready, none is at work there
-pub none_at_work : (s r : Setting) (m j : ℕ) (state : JobState) → s ≡ r → IsSetting s → IsOn s.given s.cell j (made s.cell j - 1) m → state ≡ job_in s.cell j → state.ready ≡ true → (i k : ℕ) → IsAtWork r i k m → ⊥
+pub none_at_work : (s r : RevisionSetting) (m j : ℕ) (state : JobState) → s ≡ r → IsSetting s → IsOn s.given s.cell j (made s.cell j - 1) m → state ≡ job_in s.cell j → state.ready ≡ true → (i k : ℕ) → OperationGoesOn r i k m → ⊥
 none_at_work s r m j state same is on read done i k work_there =
-    let work : IsAtWork s i k m = subst (λ (s : Setting). IsAtWork s i k m) (sym same) work_there in
+    let work : OperationGoesOn s i k m = subst (λ (s : RevisionSetting). OperationGoesOn s i k m) (sym same) work_there in
     let one : i ≡ j = alone_on s.given s.cell i k j (made s.cell j - 1) m is.shaped is.sound work.on on in
     differ (sym work.not_ready ∙ ap (ready s.cell) one ∙ sym (ap (λ (x : JobState). x.ready) read) ∙ done)
 
 -- where it isn't, it is at work
-pub one_at_work : (s r : Setting) (m j : ℕ) (state : JobState) → s ≡ r → IsOn s.given s.cell j (made s.cell j - 1) m → state ≡ job_in s.cell j → state.ready ≡ false → (k : ℕ) × IsAtWork r j k m
+pub one_at_work : (s r : RevisionSetting) (m j : ℕ) (state : JobState) → s ≡ r → IsOn s.given s.cell j (made s.cell j - 1) m → state ≡ job_in s.cell j → state.ready ≡ false → (k : ℕ) × OperationGoesOn r j k m
 one_at_work s r m j state same on read working =
-    (made s.cell j - 1, subst (λ (x : Setting). IsAtWork x j (made s.cell j - 1) m) same (record { on = on; not_ready = sym (ap (λ (x : JobState). x.ready) read) ∙ working }))
+    (made s.cell j - 1, subst (λ (x : RevisionSetting). OperationGoesOn x j (made s.cell j - 1) m) same (record { on = on; not_ready = sym (ap (λ (x : JobState). x.ready) read) ∙ working }))
 
 -- ---- the machine of the jobs that are put aside
 
@@ -123,46 +123,46 @@ aside_by_places p m b shaped last visited uncleaned says = (
 
 -- ---- changes one after another
 
-made_more : (s : Setting) (p : PlannedShop) (changes : List Change) (n : ℕ) (q r : PlannedShop) (change : Change) → slice_get changes n ≡ Some change → AreMade s p (take n changes) q → Becomes s q change r → AreMade s p (take (suc n) changes) r
+made_more : (s : RevisionSetting) (p : PlannedShop) (changes : List Change) (n : ℕ) (q r : PlannedShop) (change : Change) → slice_get changes n ≡ Some change → AreMade s p (take n changes) q → IsChangedTo s q change r → AreMade s p (take (suc n) changes) r
 made_more s p [] n q r change there made one = absurd (no_some there)
   where
     no_some : None ≡ Some change → ⊥
     no_some same = cc
-made_more s p (first ∷ changes) zero q r change there made one = (r, subst (λ (x : PlannedShop). Becomes s x first r) made (subst (λ (x : Change). Becomes s q x r) (sym (same_Some first change there)) one), refl)
+made_more s p (first ∷ changes) zero q r change there made one = (r, subst (λ (x : PlannedShop). IsChangedTo s x first r) made (subst (λ (x : Change). IsChangedTo s q x r) (sym (same_Some first change there)) one), refl)
 made_more s p (first ∷ changes) (suc n) q r change there (next, begun, rest) one = (next, begun, made_more s next changes n q r change there rest one)
 
-pub changes_more : (s : Setting) (p : PlannedShop) (changes : List Change) (n : ℕ) (q r : PlannedShop) (change : Change) → slice_get changes n ≡ Some change → AreMade s p (take n changes) q → Becomes s q change r → AreMade s p (take (n + 1) changes) r
+pub changes_more : (s : RevisionSetting) (p : PlannedShop) (changes : List Change) (n : ℕ) (q r : PlannedShop) (change : Change) → slice_get changes n ≡ Some change → AreMade s p (take n changes) q → IsChangedTo s q change r → AreMade s p (take (n + 1) changes) r
 changes_more s p changes n q r change there made one = subst (λ k. AreMade s p (take k changes) r) (sym (add-one n)) (made_more s p changes n q r change there made one)
 
 -- the refusal of a change is answered at its place
-pub first_reason_at : (s : Setting) (p : PlannedShop) (changes : List Change) (n : ℕ) (q : PlannedShop) (change : Change) (refusal : Refusal) → slice_get changes n ≡ Some change → AreMade s p (take n changes) q → UnlessMemory (IsRefused s q change) refusal
+pub first_reason_at : (s : RevisionSetting) (p : PlannedShop) (changes : List Change) (n : ℕ) (q : PlannedShop) (change : Change) (refusal : Refusal) → slice_get changes n ≡ Some change → AreMade s p (take n changes) q → UnlessMemory (IsRefusedChange s q change) refusal
     → ParsesFirst s p changes (refused_at n refusal)
 first_reason_at s p changes n q change (Fault fault) there made refused = record { reached = q; before = made; change = change; there = there; refused = refused }
 first_reason_at s p changes n q change Memory there made refused = tt
 
 -- what is answered first of the changes that are given
-pub first_reason : (p : PlannedShop) (c : Cell) (t : ℕ) (changes : List Change) (plant : ℕ) (answer : NotRevised) → IsPlant p plant → ParsesFirst (setting p c t plant) p changes answer → IsReason p c t changes answer
+pub first_reason : (p : PlannedShop) (c : Cell) (t : ℕ) (changes : List Change) (plant : ℕ) (answer : NotRevised) → IsPlant p plant → ParsesFirst (setting p c t plant) p changes answer → IsReasonNotRevised p c t changes answer
 first_reason p c t changes plant (Refused n fault) is_plant first = record { plant = plant; is_plant = is_plant; first = first }
 first_reason p c t changes plant NoMemory is_plant first = tt
 
 -- ---- the whole
 
-module _ (run : Setting) (p : PlannedShop) (c : Cell) (t : ℕ) (changes : List Change) (draft : PlannedShop) (is : run ≡ setting p c t run.plant) (sound : IsSetting run) (same : draft ≡ p) where
+module _ (run : RevisionSetting) (p : PlannedShop) (c : Cell) (t : ℕ) (changes : List Change) (draft : PlannedShop) (is : run ≡ setting p c t run.plant) (sound : IsSetting run) (same : draft ≡ p) where
   plant_of : IsPlant p run.plant
-  plant_of = subst (λ (x : PlannedShop). IsPlant x run.plant) (ap (λ (s : Setting). s.given) is) sound.plant
+  plant_of = subst (λ (x : PlannedShop). IsPlant x run.plant) (ap (λ (s : RevisionSetting). s.given) is) sound.plant
 
   pub revised_answer : (answer : Result PlannedShop NotRevised) → IfOk answer (AreMade run draft changes) → IfOk answer (IsRevised p c t changes)
   revised_answer (Ok q) made = record {
     plant = run.plant;
     is_plant = plant_of;
-    made = subst (λ (x : PlannedShop). AreMade (setting p c t run.plant) x changes q) same (subst (λ (s : Setting). AreMade s draft changes q) is made);
+    made = subst (λ (x : PlannedShop). AreMade (setting p c t run.plant) x changes q) same (subst (λ (s : RevisionSetting). AreMade s draft changes q) is made);
   }
   revised_answer (Err answer) made = tt
 
-  pub refused_answer : (answer : Result PlannedShop NotRevised) → IfErr answer (ParsesFirst run draft changes) → IfErr answer (IsReason p c t changes)
+  pub refused_answer : (answer : Result PlannedShop NotRevised) → IfErr answer (ParsesFirst run draft changes) → IfErr answer (IsReasonNotRevised p c t changes)
   refused_answer (Ok q) why = tt
   refused_answer (Err answer) why = first_reason p c t changes run.plant answer plant_of
-      (subst (λ (x : PlannedShop). ParsesFirst (setting p c t run.plant) x changes answer) same (subst (λ (s : Setting). ParsesFirst s draft changes answer) is why))
+      (subst (λ (x : PlannedShop). ParsesFirst (setting p c t run.plant) x changes answer) same (subst (λ (s : RevisionSetting). ParsesFirst s draft changes answer) is why))
 
   pub draft_given : run.given ≡ draft
-  draft_given = ap (λ (s : Setting). s.given) is ∙ sym same
+  draft_given = ap (λ (s : RevisionSetting). s.given) is ∙ sym same

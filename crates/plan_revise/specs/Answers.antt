@@ -12,7 +12,7 @@ use Rattle.plan_revise.specs.declared.change.Change.{Change}
 use Rattle.plan_revise.specs.declared.change.NotRevised.{NotRevised}
 use Rattle.plan_revise.specs.declared.change.NotRevised.TheVariants.{Refused, Memory as NoMemory}
 use Rattle.plan_revise.specs.Revised.{IsFirstRefused}
-use Rattle.plan_revise.specs.Settings.{Setting, moves_made, IsAtWork}
+use Rattle.plan_revise.specs.Settings.{RevisionSetting, moves_made, OperationGoesOn}
 use Rattle.plan_revise.specs.Aside.{HasRoom}
 
 -- the fault that is answered, unless memory ran out, is one of these
@@ -21,19 +21,19 @@ UnlessMemory Is (Fault fault) = Is fault
 UnlessMemory Is Memory = Unit {0}
 
 -- job j is outside, and there is no room for a machine more
-abbrev pub IsNoRoom : Setting → PlannedShop → ℕ → ChangeFault → Type 0
+abbrev pub IsNoRoom : RevisionSetting → PlannedShop → ℕ → ChangeFault → Type 0
 IsNoRoom s p j fault = (fault ≡ TooManyMachines) × (moves_made s j ≡ 0) × (HasRoom s p → ⊥)
 
 -- job j is outside and has machine m ahead, and there is no room for a machine more
-abbrev pub IsNoRoomFor : Setting → PlannedShop → ℕ → ℕ → ChangeFault → Type 0
+abbrev pub IsNoRoomFor : RevisionSetting → PlannedShop → ℕ → ℕ → ChangeFault → Type 0
 IsNoRoomFor s p j m fault = IsNoRoom s p j fault × (k : ℕ) × Visits p j k m
 
 -- this is the job whose operation goes on on machine m
-abbrev pub IsWorker : Setting → ℕ → Option ℕ → Type 0
-IsWorker s m job = MatchOption job ((j k : ℕ) → IsAtWork s j k m → ⊥) (λ j. (k : ℕ) × IsAtWork s j k m)
+abbrev pub IsWorker : RevisionSetting → ℕ → Option ℕ → Type 0
+IsWorker s m job = MatchOption job ((j k : ℕ) → OperationGoesOn s j k m → ⊥) (λ j. (k : ℕ) × OperationGoesOn s j k m)
 
 -- a job with these steps, this release and this budget can be added
-pub record AreFitFor (s : Setting) (p : PlannedShop) (steps : List Step) (release budget : ℕ) : Type 0 where
+pub record AreFitFor (s : RevisionSetting) (p : PlannedShop) (steps : List Step) (release budget : ℕ) : Type 0 where
   pub few_jobs : jobs p < MAX_JOBS
   pub sound : IsRoute s.plant p.shop.recirculates steps
   pub release_in_range : release ≤ MAX_RELEASE
@@ -45,6 +45,6 @@ refused_at n (Fault fault) = Refused n fault
 refused_at n Memory = NoMemory
 
 -- the answer says the first of the changes that can't be, unless memory ran out
-abbrev pub ParsesFirst : Setting → PlannedShop → List Change → NotRevised → Type 0
+abbrev pub ParsesFirst : RevisionSetting → PlannedShop → List Change → NotRevised → Type 0
 ParsesFirst s p changes (Refused n fault) = IsFirstRefused s p changes n fault
 ParsesFirst s p changes NoMemory = Unit {0}

@@ -4,9 +4,9 @@ use Rattle.shop_base.specs.declared.limits.TheConstants.{MAX_RELEASE, MAX_MACHIN
 use Rattle.shop_base.specs.declared.shop.Step.{Step}
 use Rattle.shop_base.specs.Plan.{PlannedShop, machines, steps, nominal, clean, order, Visits}
 use Rattle.plan_revise.specs.Promises.{no_promise, HasNoPromise}
-use Rattle.plan_revise.specs.Ended.{ended}
-use Rattle.plan_revise.specs.Placed.{placed, with_machine}
-use Rattle.plan_revise.specs.Settings.{Setting}
+use Rattle.plan_revise.specs.Ended.{with_job_ended}
+use Rattle.plan_revise.specs.Placed.{placed, with_new_machine}
+use Rattle.plan_revise.specs.Settings.{RevisionSetting}
 
 -- the whole route of job j is one step that takes no time, and it has no promise
 pub record IsAsideJob (p : PlannedShop) (j : ℕ) : Type 0 where
@@ -29,10 +29,10 @@ IsPlant p plant = IsAside p plant ⊎ ((plant ≡ machines p) × ((m : ℕ) → 
 abbrev pub aside_route : ℕ → List Step
 aside_route m = record { machine = m; nominal = 0 } ∷ []
 
-module _ (s : Setting) (p : PlannedShop) where
+module _ (s : RevisionSetting) (p : PlannedShop) where
   -- with the machine of the jobs that are put aside, which is brought in where there is none
   abbrev pub with_aside : PlannedShop
-  with_aside = if machines p == s.plant then with_machine p else p
+  with_aside = if machines p == s.plant then with_new_machine p else p
 
   -- there is that machine, or a shop may have one more
   abbrev pub HasRoom : Type 0
@@ -40,4 +40,4 @@ module _ (s : Setting) (p : PlannedShop) where
 
   -- job j, which is outside, is put aside: it is taken out of all orders, and goes last on that machine, released at the present moment
   abbrev pub put_aside : ℕ → PlannedShop
-  put_aside j = placed (ended with_aside j 0) j (aside_route s.plant) (min s.present MAX_RELEASE) no_promise
+  put_aside j = placed (with_job_ended with_aside j 0) j (aside_route s.plant) (min s.present MAX_RELEASE) no_promise

@@ -10,7 +10,7 @@ use Rattle.plan_revise.specs.declared.change.Change.{Change}
 use Rattle.plan_revise.specs.declared.change.Change.TheVariants.{Until, Add, Scrap, Down}
 use Rattle.plan_revise.specs.Promises.{no_promise}
 use Rattle.plan_revise.specs.Placed.{added}
-use Rattle.plan_revise.specs.Settings.{Setting, moves_made, HasLeft, IsAtWork}
+use Rattle.plan_revise.specs.Settings.{RevisionSetting, moves_made, HasLeftCell, OperationGoesOn}
 use Rattle.plan_revise.specs.Aside.{HasRoom}
 use Rattle.plan_revise.specs.Stopped.{stopped, without_machine}
 
@@ -25,13 +25,13 @@ lasting p j k time = record p {
   shop = record p.shop { routes = slice_set p.shop.routes j (slice_set (route p j) k (record { machine = machine_of p j k; nominal = time })) };
 }
 
-module _ (s : Setting) (p : PlannedShop) where
+module _ (s : RevisionSetting) (p : PlannedShop) where
   -- the operation that goes on on the machine lasts until a moment, counted from its job's entry
   pub record IsProlonged (machine to : ℕ) (q : PlannedShop) : Type 0 where
     pub in_plant : machine < s.plant
     pub job : ℕ
     pub step : ℕ
-    pub at_work : IsAtWork s job step machine
+    pub at_work : OperationGoesOn s job step machine
     pub not_past : s.present ≤ to
     pub short : to - since s.cell job ≤ MAX_NOMINAL
     pub is : q ≡ lasting p job step (to - since s.cell job)
@@ -49,7 +49,7 @@ module _ (s : Setting) (p : PlannedShop) where
   -- job j, which hasn't left, is stopped where it is
   pub record IsScrapped (j : ℕ) (q : PlannedShop) : Type 0 where
     pub in_shop : j < jobs p
-    pub here : HasLeft s p j → ⊥
+    pub here : HasLeftCell s p j → ⊥
     pub room : moves_made s j ≡ 0 → HasRoom s p
     pub is : q ≡ stopped s p j (moves_made s j)
 
@@ -60,8 +60,8 @@ module _ (s : Setting) (p : PlannedShop) where
     pub is : q ≡ without_machine s p machine (jobs p)
 
   -- what the change makes of the shop and its plan
-  abbrev pub Becomes : Change → PlannedShop → Type 0
-  Becomes (Until machine to) q = IsProlonged machine to q
-  Becomes (Add words release budget) q = IsAdded words.now release budget q
-  Becomes (Scrap j) q = IsScrapped j q
-  Becomes (Down machine) q = IsWithout machine q
+  abbrev pub IsChangedTo : Change → PlannedShop → Type 0
+  IsChangedTo (Until machine to) q = IsProlonged machine to q
+  IsChangedTo (Add words release budget) q = IsAdded words.now release budget q
+  IsChangedTo (Scrap j) q = IsScrapped j q
+  IsChangedTo (Down machine) q = IsWithout machine q

@@ -7,7 +7,7 @@ use Rattle.shop_base.specs.Cell.{made, entries, IsGone}
 use Rattle.shop_base.specs.Move.{IsPrefix}
 use Rattle.shop_base.specs.Sound.{IsSound}
 use Rattle.plan_revise.specs.Aside.{IsPlant}
-use Rattle.plan_revise.specs.Settings.{Setting}
+use Rattle.plan_revise.specs.Settings.{RevisionSetting}
 
 -- all that makes a plan well shaped, but that each route has a step
 pub record IsFit (p : PlannedShop) : Type 0 where
@@ -19,7 +19,7 @@ pub record IsFit (p : PlannedShop) : Type 0 where
   pub orders : (m : ℕ) → m < machines p → IsOrder p m
 
 -- the run so far is kept: the jobs that were given are there, the steps that they have entered are on the same machines, those that have left have no others, those that have entered a machine begin its order, and it has the same cleaning time
-pub record IsKept (s : Setting) (p : PlannedShop) : Type 0 where
+pub record IsKept (s : RevisionSetting) (p : PlannedShop) : Type 0 where
   pub jobs_there : jobs s.given ≤ jobs p
   pub entered : (j k : ℕ) → k < made s.cell j → Visits s.given j k (machine_of s.given j k) → Visits p j k (machine_of s.given j k)
   pub left : (j : ℕ) → j < jobs s.given → IsGone s.given s.cell j → steps p j ≡ steps s.given j
@@ -27,7 +27,7 @@ pub record IsKept (s : Setting) (p : PlannedShop) : Type 0 where
   pub cleaned : (m : ℕ) → clean p m ≡ clean s.given m
 
 -- what changes make of what is given: it fits, each route has a step, the run so far is kept, and there are the machines that were given: those of the plant, and at most one behind them
-pub record IsRevision (s : Setting) (p : PlannedShop) : Type 0 where
+pub record IsRevision (s : RevisionSetting) (p : PlannedShop) : Type 0 where
   pub fit : IsFit p
   pub some_step : (j : ℕ) → j < jobs p → 0 < steps p j
   pub kept : IsKept s p
@@ -35,7 +35,7 @@ pub record IsRevision (s : Setting) (p : PlannedShop) : Type 0 where
   pub plant : (machines p ≡ s.plant) ⊎ (machines p ≡ s.plant + 1)
 
 -- the plan that is given is well shaped, the cell is one of a run, the present moment isn't before its last, and these are the machines of the plant
-pub record IsSetting (s : Setting) : Type 0 where
+pub record IsSetting (s : RevisionSetting) : Type 0 where
   pub shaped : IsWellShaped s.given
   pub sound : IsSound s.given s.cell
   pub present : s.cell.last ≤ s.present

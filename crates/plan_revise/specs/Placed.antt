@@ -12,15 +12,15 @@ placed p j steps release budget = record {
 }
 
 -- one job more, which is in no order, without a route
-abbrev pub with_job : PlannedShop → PlannedShop
-with_job p = record {
+abbrev pub with_new_job : PlannedShop → PlannedShop
+with_new_job p = record {
   shop = record p.shop { routes = p.shop.routes ++ [] ∷ [] };
   plan = record p.plan { release = p.plan.release ++ 0 ∷ []; budget = p.plan.budget ++ 0 ∷ [] };
 }
 
 -- one job more, with this route, release and budget, each of its visits last in its machine's order
 abbrev pub added : PlannedShop → List Step → ℕ → ℕ → PlannedShop
-added p steps release budget = placed (with_job p) (jobs p) steps release budget
+added p steps release budget = placed (with_new_job p) (jobs p) steps release budget
 
 -- the cleaning times, with one of 0 more where there are any
 abbrev pub with_clean_machine : Option (List ℕ) → Option (List ℕ)
@@ -28,8 +28,8 @@ with_clean_machine None = None
 with_clean_machine (Some times) = Some (times ++ 0 ∷ [])
 
 -- one machine more, which nobody visits, without a cleaning time
-abbrev pub with_machine : PlannedShop → PlannedShop
-with_machine p = record {
+abbrev pub with_new_machine : PlannedShop → PlannedShop
+with_new_machine p = record {
   shop = record p.shop { machines = machines p + 1 };
   plan = record p.plan { order = p.plan.order ++ [] ∷ []; clean = with_clean_machine p.plan.clean };
 }

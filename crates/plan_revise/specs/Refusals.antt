@@ -13,24 +13,24 @@ use Rattle.plan_revise.specs.declared.change.Change.TheVariants.{Until, Add, Scr
 use Rattle.plan_revise.specs.declared.change.ChangeFault.{ChangeFault}
 use Rattle.plan_revise.specs.declared.change.ChangeFault.TheVariants.{MachineOutOfRange, Idle, TooSoon, NominalTooLarge, OddWords, BadNumber, TooManyJobs, ReleaseTooLarge, BudgetTooLarge, JobOutOfRange, JobGone, TooManyMachines}
 use Rattle.plan_revise.specs.Promises.{no_promise}
-use Rattle.plan_revise.specs.Settings.{Setting, moves_made, HasLeft, IsAtWork}
+use Rattle.plan_revise.specs.Settings.{RevisionSetting, moves_made, HasLeftCell, OperationGoesOn}
 use Rattle.plan_revise.specs.Aside.{HasRoom}
 use Rattle.plan_revise.specs.Routes.{IsRouteFault}
 use Rattle.plan_revise.specs.Changes.{given_or}
 
 -- the words aren't those of a job's line
-abbrev pub IsLineFault : List ℕ → ChangeFault → Type 0
-IsLineFault words OddWords = (fault : OrFault) × IsOddLine (first_line words) fault
-IsLineFault words BadNumber = (fault : OrFault) × IsWordLine (first_line words) fault
-IsLineFault words fault = ⊥
+abbrev pub IsJobLineFault : List ℕ → ChangeFault → Type 0
+IsJobLineFault words OddWords = (fault : OrFault) × IsOddLine (first_line words) fault
+IsJobLineFault words BadNumber = (fault : OrFault) × IsWordLine (first_line words) fault
+IsJobLineFault words fault = ⊥
 
-module _ (s : Setting) (p : PlannedShop) where
+module _ (s : RevisionSetting) (p : PlannedShop) where
   -- an operation can't last until a moment
   abbrev pub IsUntilFault : ℕ → ℕ → ChangeFault → Type 0
   IsUntilFault machine to MachineOutOfRange = s.plant ≤ machine
-  IsUntilFault machine to Idle = (machine < s.plant) × ((j k : ℕ) → IsAtWork s j k machine → ⊥)
-  IsUntilFault machine to TooSoon = (machine < s.plant) × (j : ℕ) × (k : ℕ) × IsAtWork s j k machine × (to < s.present)
-  IsUntilFault machine to NominalTooLarge = (machine < s.plant) × (j : ℕ) × (k : ℕ) × IsAtWork s j k machine × (s.present ≤ to) × (MAX_NOMINAL < to - since s.cell j)
+  IsUntilFault machine to Idle = (machine < s.plant) × ((j k : ℕ) → OperationGoesOn s j k machine → ⊥)
+  IsUntilFault machine to TooSoon = (machine < s.plant) × (j : ℕ) × (k : ℕ) × OperationGoesOn s j k machine × (to < s.present)
+  IsUntilFault machine to NominalTooLarge = (machine < s.plant) × (j : ℕ) × (k : ℕ) × OperationGoesOn s j k machine × (s.present ≤ to) × (MAX_NOMINAL < to - since s.cell j)
   IsUntilFault machine to fault = ⊥
 
   -- a job with these steps can't be added: there are too many jobs, or the steps are no route over the machines of the plant, or its release or its budget is over the limit
@@ -41,21 +41,21 @@ module _ (s : Setting) (p : PlannedShop) where
   IsStepsFault steps release budget fault = (jobs p < MAX_JOBS) × IsRouteFault s.plant p.shop.recirculates steps fault
 
   -- these words are read as steps that can't be added
-  pub record IsReadFault (words : List ℕ) (release budget : ℕ) (fault : ChangeFault) : Type 0 where
+  pub record IsAddedStepsFault (words : List ℕ) (release budget : ℕ) (fault : ChangeFault) : Type 0 where
     pub steps : List Step
     pub written : IsJobLine (first_line words) steps
     pub wrong : IsStepsFault steps release budget fault
 
   -- a job can't be added
   abbrev pub IsAddFault : List ℕ → Option ℕ → Option ℕ → ChangeFault → Type 0
-  IsAddFault words release budget OddWords = IsLineFault words OddWords
-  IsAddFault words release budget BadNumber = IsLineFault words BadNumber
-  IsAddFault words release budget fault = IsReadFault words (given_or release s.present) (given_or budget no_promise) fault
+  IsAddFault words release budget OddWords = IsJobLineFault words OddWords
+  IsAddFault words release budget BadNumber = IsJobLineFault words BadNumber
+  IsAddFault words release budget fault = IsAddedStepsFault words (given_or release s.present) (given_or budget no_promise) fault
 
   -- a job can't be scrapped
   abbrev pub IsScrapFault : ℕ → ChangeFault → Type 0
   IsScrapFault j JobOutOfRange = jobs p ≤ j
-  IsScrapFault j JobGone = (j < jobs p) × HasLeft s p j
+  IsScrapFault j JobGone = (j < jobs p) × HasLeftCell s p j
   IsScrapFault j TooManyMachines = (j < jobs p) × (moves_made s j ≡ 0) × (HasRoom s p → ⊥)
   IsScrapFault j fault = ⊥
 
@@ -75,8 +75,8 @@ module _ (s : Setting) (p : PlannedShop) where
   IsDownFault machine fault = ⊥
 
   -- the change can't be, and this is the first reason
-  abbrev pub IsRefused : Change → ChangeFault → Type 0
-  IsRefused (Until machine to) fault = IsUntilFault machine to fault
-  IsRefused (Add words release budget) fault = IsAddFault words.now release budget fault
-  IsRefused (Scrap j) fault = IsScrapFault j fault
-  IsRefused (Down machine) fault = IsDownFault machine fault
+  abbrev pub IsRefusedChange : Change → ChangeFault → Type 0
+  IsRefusedChange (Until machine to) fault = IsUntilFault machine to fault
+  IsRefusedChange (Add words release budget) fault = IsAddFault words.now release budget fault
+  IsRefusedChange (Scrap j) fault = IsScrapFault j fault
+  IsRefusedChange (Down machine) fault = IsDownFault machine fault

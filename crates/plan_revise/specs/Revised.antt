@@ -6,23 +6,23 @@ use Rattle.plan_revise.specs.declared.change.Change.{Change}
 use Rattle.plan_revise.specs.declared.change.ChangeFault.{ChangeFault}
 use Rattle.plan_revise.specs.declared.change.NotRevised.{NotRevised}
 use Rattle.plan_revise.specs.declared.change.NotRevised.TheVariants.{Refused, Memory}
-use Rattle.plan_revise.specs.Settings.{Setting, setting}
+use Rattle.plan_revise.specs.Settings.{RevisionSetting, setting}
 use Rattle.plan_revise.specs.Aside.{IsPlant}
-use Rattle.plan_revise.specs.Changes.{Becomes}
-use Rattle.plan_revise.specs.Refusals.{IsRefused}
+use Rattle.plan_revise.specs.Changes.{IsChangedTo}
+use Rattle.plan_revise.specs.Refusals.{IsRefusedChange}
 
 -- the changes, each of what those before it made, make this of the shop and its plan
-abbrev pub AreMade : Setting → PlannedShop → List Change → PlannedShop → Type 0
+abbrev pub AreMade : RevisionSetting → PlannedShop → List Change → PlannedShop → Type 0
 AreMade s p [] q = q ≡ p
-AreMade s p (change ∷ changes) q = (next : PlannedShop) × Becomes s p change next × AreMade s next changes q
+AreMade s p (change ∷ changes) q = (next : PlannedShop) × IsChangedTo s p change next × AreMade s next changes q
 
 -- the change at place n is the first that can't be, for this reason
-pub record IsFirstRefused (s : Setting) (p : PlannedShop) (changes : List Change) (n : ℕ) (fault : ChangeFault) : Type 0 where
+pub record IsFirstRefused (s : RevisionSetting) (p : PlannedShop) (changes : List Change) (n : ℕ) (fault : ChangeFault) : Type 0 where
   pub reached : PlannedShop
   pub before : AreMade s p (take n changes) reached
   pub change : Change
   pub there : slice_get changes n ≡ Some change
-  pub refused : IsRefused s reached change fault
+  pub refused : IsRefusedChange s reached change fault
 
 module _ (p : PlannedShop) (c : Cell) (t : ℕ) (changes : List Change) where
   -- all changes are made, by the run so far, the present moment and the machines of the plant
@@ -38,6 +38,6 @@ module _ (p : PlannedShop) (c : Cell) (t : ℕ) (changes : List Change) where
     pub first : IsFirstRefused (setting p c t plant) p changes n fault
 
   -- the answer says which, unless memory ran out
-  abbrev pub IsReason : NotRevised → Type 0
-  IsReason (Refused n fault) = IsRefusedAt n fault
-  IsReason Memory = Unit {0}
+  abbrev pub IsReasonNotRevised : NotRevised → Type 0
+  IsReasonNotRevised (Refused n fault) = IsRefusedAt n fault
+  IsReasonNotRevised Memory = Unit {0}

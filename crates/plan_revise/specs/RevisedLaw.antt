@@ -82,6 +82,6 @@ NoDeadlineComesSooner = (p q : PlannedShop) (es : List Event) (t : ℕ) (changes
     → (v : Node) → IsNode p v → IsNode q v → IsAhead (ends_in q es) v → (IsPutAside plant q v.job → ⊥) → kept v ≤ later v
 
 -- where jobs are scrapped and machines are down, a rest that is to be accepted stays so
-abbrev pub AcceptedRestsStayAccepted : Type 0
-AcceptedRestsStayAccepted = (p q : PlannedShop) (es : List Event) (t : ℕ) (changes : List Change) → IsRevisedRun p es t changes q → AreStops changes → t ≤ MAX_MOMENT
+abbrev pub RevisedRestsStayAccepted : Type 0
+RevisedRestsStayAccepted = (p q : PlannedShop) (es : List Event) (t : ℕ) (changes : List Change) → IsRevisedRun p es t changes q → AreStops changes → t ≤ MAX_MOMENT
     → IsAcceptableAhead p (ends_in p es) t → IsAcceptableAhead q (ends_in q es) t

@@ -1,13 +1,13 @@
 -- How far jobs were stopped at a machine that is down, one after another.
 use Rattle.std.specs.Prelude.{◌≡◌, ℕ, ◌<◌, ◌≤◌}
 use Rattle.shop_base.specs.Plan.{PlannedShop, jobs, machines, route, Visits}
-use Rattle.plan_revise.specs.Settings.{Setting, moves_made}
+use Rattle.plan_revise.specs.Settings.{RevisionSetting, moves_made}
 use Rattle.plan_revise.specs.Aside.{HasRoom}
 use Rattle.plan_revise.specs.Stopped.{without_machine}
 use Rattle.plan_revise.specs.Fits.{IsRevision}
 
 -- plan p has become plan q, in which the first n jobs do without machine m: the routes of the others are as they were
-pub record IsStage (s : Setting) (p : PlannedShop) (m n : ℕ) (q : PlannedShop) : Type 0 where
+pub record IsStage (s : RevisionSetting) (p : PlannedShop) (m n : ℕ) (q : PlannedShop) : Type 0 where
   pub is : q ≡ without_machine s p m n
   pub revision : IsRevision s q
   pub jobs_same : jobs q ≡ jobs p

@@ -1,14 +1,14 @@
 -- Jobs that are stopped: in the cell they end, outside they are put aside.
 use Rattle.std.specs.Prelude.{ℕ, zero, suc, ◌+◌, ◌-◌, max, ◌==◌, if◌then◌else◌, Option, None, Some, drop, position}
 use Rattle.shop_base.specs.Plan.{PlannedShop, route}
-use Rattle.plan_revise.specs.Ended.{ended}
+use Rattle.plan_revise.specs.Ended.{with_job_ended}
 use Rattle.plan_revise.specs.Aside.{put_aside}
-use Rattle.plan_revise.specs.Settings.{Setting, moves_made}
+use Rattle.plan_revise.specs.Settings.{RevisionSetting, moves_made}
 
-module _ (s : Setting) where
+module _ (s : RevisionSetting) where
   -- job j does no more than its first n steps: in the cell it ends behind them, outside it is put aside
   abbrev pub stopped : PlannedShop → ℕ → ℕ → PlannedShop
-  stopped p j n = if moves_made s j == 0 then put_aside s p j else ended p j n
+  stopped p j n = if moves_made s j == 0 then put_aside s p j else with_job_ended p j n
 
   -- the step that job j has entered last, its first one where it is outside
   abbrev pub present_step : ℕ → ℕ

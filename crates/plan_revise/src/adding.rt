@@ -4,7 +4,7 @@ ghost use Rattle.std.specs.Prelude.{◌≡◌, ℕ, ◌<◌, OnOk, IfErr, IfOk, 
 ghost use Rattle.shop_base.specs.{declared.limits.TheConstants.MAX_JOBS, Shop.step_at, Plan.jobs, Plan.machines};
 ghost use Rattle.orlib_read.specs.Kinds.{first_line, IsJobLine};
 ghost use Rattle.plan_revise.specs.{Placed.added, Changes.IsAdded, Changes.given_or};
-ghost use Rattle.plan_revise.specs.Refusals.{IsAddFault, IsStepsFault, IsLineFault};
+ghost use Rattle.plan_revise.specs.Refusals.{IsAddFault, IsStepsFault, IsJobLineFault};
 ghost use Rattle.plan_revise.specs.{Fits.IsFit, Fits.IsRevision, Answers.UnlessMemory, Answers.AreFitFor};
 
 use crate::change::{ChangeFault, Made, Refusal};
@@ -87,7 +87,7 @@ impl Draft {
 /// The steps that the words say.
 fn steps_of(alloc: Global, words: &[u8]) -> Result<Vec<Step>, Refusal>
     ensures steps { IfOk result (λ steps. IsJobLine (first_line words.now) steps.items) }
-    ensures fault { IfErr result (UnlessMemory (IsLineFault words.now)) }
+    ensures fault { IfErr result (UnlessMemory (IsJobLineFault words.now)) }
 {
     match read_route(alloc, words) {
         Ok(steps) => Ok(steps),

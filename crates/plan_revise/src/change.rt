@@ -1,7 +1,7 @@
 //! A change of what is ahead of a run, and why it isn't made.
 
 ghost use Rattle.std.specs.Prelude.{◌≡◌};
-ghost use Rattle.plan_revise.specs.Names.{fault_name};
+ghost use Rattle.plan_revise.specs.Names.{change_fault_name};
 
 use shop_base::{JobNo, MachineNo, Moment};
 use std::alloc::AllocError;
@@ -87,7 +87,7 @@ pub enum ChangeFault {
 impl ChangeFault {
     /// The name of the fault.
     pub fn name(self) -> &'static str
-        ensures { result.now ≡ fault_name self }
+        ensures { result.now ≡ change_fault_name self }
     {
         match self {
             ChangeFault::MachineOutOfRange => "MachineOutOfRange",

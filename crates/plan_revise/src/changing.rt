@@ -1,8 +1,8 @@
 //! One change.
 
 ghost use Rattle.std.specs.Prelude.{◌≡◌, OnOk, IfErr};
-ghost use Rattle.plan_revise.specs.Changes.{Becomes, IsProlonged, IsScrapped, IsWithout};
-ghost use Rattle.plan_revise.specs.Refusals.{IsRefused, IsUntilFault, IsScrapFault, IsDownFault};
+ghost use Rattle.plan_revise.specs.Changes.{IsChangedTo, IsProlonged, IsScrapped, IsWithout};
+ghost use Rattle.plan_revise.specs.Refusals.{IsRefusedChange, IsUntilFault, IsScrapFault, IsDownFault};
 ghost use Rattle.plan_revise.specs.{Fits.IsRevision, Answers.UnlessMemory};
 
 use crate::change::{Change, ChangeFault, Made, Refusal};
@@ -21,8 +21,8 @@ impl Draft {
         change: Change,
     ) -> Made
         requires { IsRevision run.now self.old }
-        ensures made { OnOk result (Becomes run.now self.old change.entry self.new) }
-        ensures refused { IfErr result (UnlessMemory (IsRefused run.now self.old change.entry)) }
+        ensures made { OnOk result (IsChangedTo run.now self.old change.entry self.new) }
+        ensures refused { IfErr result (UnlessMemory (IsRefusedChange run.now self.old change.entry)) }
     {
         match change {
             Change::Until { machine, to } => self.prolong(run, machine, to),

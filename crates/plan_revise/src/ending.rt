@@ -3,8 +3,8 @@
 ghost use Rattle.std.specs.Prelude.{◌≡◌, ℕ, ◌<◌, ◌≤◌, OnOk, length, drop};
 ghost use Rattle.shop_base.specs.{declared.limits.TheConstants.MAX_MACHINES, Shop.step_at};
 ghost use Rattle.shop_base.specs.Plan.{jobs, machines, steps, HasCounts};
-ghost use Rattle.plan_revise.specs.{Promises.no_promise, Ended.ended};
-ghost use Rattle.plan_revise.specs.{Placed.placed, Placed.with_job, Placed.with_machine, Changes.lasting, Fits.IsFit};
+ghost use Rattle.plan_revise.specs.{Promises.no_promise, Ended.with_job_ended};
+ghost use Rattle.plan_revise.specs.{Placed.placed, Placed.with_new_job, Placed.with_new_machine, Changes.lasting, Fits.IsFit};
 
 use crate::draft::Draft;
 use crate::orders::{put_last, take_out};
@@ -21,7 +21,7 @@ impl Draft {
         requires fit { IsFit self.old }
         requires job { job < jobs self.old }
         requires within { count ≤ steps self.old job }
-        ensures { self.new ≡ ended self.old job count }
+        ensures { self.new ≡ with_job_ended self.old job count }
     {
         let rest = rest_of(&self.routes[job as usize], count);
         take_out(&mut self.order, job, rest);
@@ -51,7 +51,7 @@ impl Draft {
 
     /// One job more, without a route.
     pub(crate) fn add_job(&mut self, alloc: Global) -> Result<(), AllocError>
-        ensures { OnOk result (self.new ≡ with_job self.old) }
+        ensures { OnOk result (self.new ≡ with_new_job self.old) }
     {
         self.routes.push(Vec::new(alloc))?;
         self.release.push(0)?;
@@ -62,7 +62,7 @@ impl Draft {
     /// One machine more, which nobody visits.
     pub(crate) fn add_machine(&mut self, alloc: Global) -> Result<(), AllocError>
         requires { machines self.old < MAX_MACHINES }
-        ensures { OnOk result (self.new ≡ with_machine self.old) }
+        ensures { OnOk result (self.new ≡ with_new_machine self.old) }
     {
         self.order.push(Vec::new(alloc))?;
         if let Some(times) = &mut self.clean {

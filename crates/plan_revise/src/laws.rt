@@ -4,7 +4,7 @@
 
 ghost use Rattle.plan_revise.specs.RevisedLaw.{TheRunSoFarStays, NoCycleComes, NobodyElseIsLater};
 ghost use Rattle.plan_revise.specs.RevisedLaw.{NoPartComesToAMachineThatIsDown, NoDeadlineComesSooner};
-ghost use Rattle.plan_revise.specs.RevisedLaw.{AcceptedRestsStayAccepted};
+ghost use Rattle.plan_revise.specs.RevisedLaw.{RevisedRestsStayAccepted};
 
 use cell_tables::laws::a_kept_run_is_one_of_the_other_plan;
 
@@ -46,7 +46,7 @@ pub fn no_deadline_comes_sooner()
 
 /// Where jobs are scrapped and machines are down alone, a rest that is to be accepted stays so.
 pub fn accepted_rests_stay_accepted()
-    ensures { AcceptedRestsStayAccepted }
+    ensures { RevisedRestsStayAccepted }
 {
     a_kept_run_is_one_of_the_other_plan();
 }

@@ -1,7 +1,7 @@
 //! Changes one after another.
 
 ghost use Rattle.std.specs.Prelude.{◌≡◌, ◌<◌, IfOk, OnOk, IfErr, length, slice_get, Some};
-ghost use Rattle.plan_revise.specs.{Revised.AreMade, Revised.IsRevised, Revised.IsReason, Fits.IsRevision};
+ghost use Rattle.plan_revise.specs.{Revised.AreMade, Revised.IsRevised, Revised.IsReasonNotRevised, Fits.IsRevision};
 ghost use Rattle.plan_revise.specs.Answers.{refused_at, ParsesFirst};
 
 use crate::change::{Change, NotRevised, Refusal};
@@ -22,7 +22,7 @@ pub fn revise<P: Planned>(
     changes: &[Change],
 ) -> Result<Shaped, NotRevised>
     ensures revised { IfOk result (IsRevised rest.now.plan rest.now.cell rest.now.present changes.now) }
-    ensures refused { IfErr result (IsReason rest.now.plan rest.now.cell rest.now.present changes.now) }
+    ensures refused { IfErr result (IsReasonNotRevised rest.now.plan rest.now.cell rest.now.present changes.now) }
 {
     let run = RunSoFar::of(rest);
     match Draft::of(alloc, rest.shaped()) {

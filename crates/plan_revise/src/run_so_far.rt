@@ -18,10 +18,10 @@ pub(crate) struct RunSoFar<'a, P: Planned> {
 }
 
 impl<'a, P: Planned> Model for RunSoFar<'a, P> {
-    ghost use Rattle.plan_revise.specs.Settings.{Setting, setting};
+    ghost use Rattle.plan_revise.specs.Settings.{RevisionSetting, setting};
     ghost use Rattle.plan_revise.specs.Fits.{IsSetting};
 
-    ghost Value = { Setting };
+    ghost Value = { RevisionSetting };
 
     ghost view = { λ r. setting r.rest.now.plan r.rest.now.cell r.rest.now.present r.plant };
 

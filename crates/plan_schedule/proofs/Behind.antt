@@ -4,7 +4,7 @@ use Rattle.shop_base.specs.{Plan.PlannedShop, Cell.Cell, Deadlines.AreDeadlines}
 use Rattle.alt_graph.specs.{Times.{NodeTimes, earliest_of}, Latest.{NodeMoments, moment_of}}
 use Rattle.people_names.specs.NameBooks.{NameBook}
 use Rattle.plan_verifier.specs.Rest.{AreOrderedAhead}
-use Rattle.plan_schedule.specs.{Calendars.due_in, ScheduleLines.AreScheduleLines, Scheduled.{AreInTime, AreLate, AreEarliest, AreLinesBy}}
+use Rattle.plan_schedule.specs.{Calendars.due_in, ScheduleLines.AreScheduleLines, Scheduled.{AreInTime, HaveNoDeadlines, AreEarliest, AreLinesBy}}
 
 -- earliest moments are greatest lengths
 pub are_moments : (p : PlannedShop) (c : Cell) (t : ℕ) (times : NodeTimes) → AreOrderedAhead p c t times → AreEarliest p c t (earliest_of times)
@@ -16,5 +16,5 @@ module _ (names : NameBook) (p : PlannedShop) (c : Cell) (t : ℕ) (times : Node
   in_time d deadlines are =
       record { moments = earliest_of times; earliest = are_moments p c t times ordered; due = due_in (Some d); deadlines = (moment_of d, deadlines, λ v. refl); are = are }
 
-  pub late : AreScheduleLines names p c t (earliest_of times) (due_in None) lines → AreLinesBy names p c t AreLate lines
+  pub late : AreScheduleLines names p c t (earliest_of times) (due_in None) lines → AreLinesBy names p c t HaveNoDeadlines lines
   late are = record { moments = earliest_of times; earliest = are_moments p c t times ordered; due = due_in None; deadlines = λ v. refl; are = are }

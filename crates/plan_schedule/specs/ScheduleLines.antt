@@ -38,7 +38,7 @@ module _ (p : PlannedShop) (c : Cell) (t : ℕ) where
   }
 
   -- the cleaning of machine m that goes on
-  pub record IsGoingOn (due : Node → Option ℕ) (m : ℕ) (here : Cleaning) : Type 0 where
+  pub record IsCleaningNow (due : Node → Option ℕ) (m : ℕ) (here : Cleaning) : Type 0 where
     pub begun : cleaning c m ≡ Some here.from
     pub place : here.machine ≡ m
     pub ends : here.to ≡ cleaned_by m here.from
@@ -46,7 +46,7 @@ module _ (p : PlannedShop) (c : Cell) (t : ℕ) where
 
   -- it is there just where the machine is being cleaned
   abbrev pub IsCleaningOn : (Node → Option ℕ) → ℕ → Option Cleaning → Type 0
-  IsCleaningOn due m here = MatchOption here (cleaning c m ≡ None) (IsGoingOn due m)
+  IsCleaningOn due m here = MatchOption here (cleaning c m ≡ None) (IsCleaningNow due m)
 
 module _ (names : NameBook) (p : PlannedShop) (c : Cell) (t : ℕ) where
   -- the line of job j, which hasn't entered: that it has arrived, or when it does, which is the present moment t where its release is past

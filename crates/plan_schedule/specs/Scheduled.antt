@@ -13,8 +13,8 @@ abbrev pub AreInTime : PlannedShop → Cell → (Node → Option ℕ) → Type 0
 AreInTime p c due = (dues : Node → ℕ) × AreDeadlines p c dues × ((v : Node) → due v ≡ Some (dues v))
 
 -- no node of a late one has one
-abbrev pub AreLate : (Node → Option ℕ) → Type 0
-AreLate due = (v : Node) → due v ≡ None
+abbrev pub HaveNoDeadlines : (Node → Option ℕ) → Type 0
+HaveNoDeadlines due = (v : Node) → due v ≡ None
 
 -- of each node ahead the greatest length of a path ahead to it; of those of the start they are the moments of the exact run
 abbrev pub AreEarliest : PlannedShop → Cell → ℕ → (Node → ℕ) → Type 0
@@ -30,11 +30,11 @@ module _ (names : NameBook) (p : PlannedShop) (c : Cell) (t : ℕ) where
     pub are : AreScheduleLines names p c t moments due lines
 
   -- behind the first line of a verdict: with deadlines where it is accepted, without where it is late; none where there is a cycle, as then there are no moments
-  abbrev pub AreLinesBehind : Judged → List ℕ → Type 0
-  AreLinesBehind (Accepted times) lines = AreLinesBy (AreInTime p c) lines
-  AreLinesBehind (Refused (Cycle nodes)) lines = lines ≡ []
-  AreLinesBehind (Refused (Late job leaves chain times)) lines = AreLinesBy AreLate lines
+  abbrev pub AreVerdictLines : Judged → List ℕ → Type 0
+  AreVerdictLines (Accepted times) lines = AreLinesBy (AreInTime p c) lines
+  AreVerdictLines (Refused (Cycle nodes)) lines = lines ≡ []
+  AreVerdictLines (Refused (Late job leaves chain times)) lines = AreLinesBy HaveNoDeadlines lines
 
   -- the schedule of a verdict: its first line, and then those behind it
   abbrev pub IsScheduled : Judged → List ℕ → Type 0
-  IsScheduled verdict = AreBoth (IsFirstLine p c t verdict) (AreLinesBehind verdict)
+  IsScheduled verdict = AreBoth (IsFirstLine p c t verdict) (AreVerdictLines verdict)

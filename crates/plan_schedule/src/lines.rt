@@ -1,7 +1,7 @@
 //! The lines of a schedule.
 
 ghost use Rattle.std.specs.Prelude.{◌≡◌, ◌+◌, ◌≤◌, ◌++◌, length, OnOk, Some};
-ghost use Rattle.plan_explain.specs.Arcs.{before};
+ghost use Rattle.plan_explain.specs.Arcs.{words_and};
 ghost use Rattle.plan_schedule.specs.Lines.{due_words, arrival_line, ending_words, visit_line};
 ghost use Rattle.plan_schedule.specs.Lines.{cleaning_line, left_line, arrived_line};
 
@@ -115,7 +115,7 @@ pub(crate) fn push_cleaning_line(
 #[inline(always)]
 fn put_due(line: &mut Line, names: &Names, due: Option<Moment>)
     requires { length line.old ≤ 60 }
-    ensures written { line.new ≡ before (due_words names.now due) line.old }
+    ensures written { line.new ≡ words_and (due_words names.now due) line.old }
     ensures length { length line.new ≤ 33 + length line.old }
 {
     if let Some(deadline) = due {
@@ -126,7 +126,7 @@ fn put_due(line: &mut Line, names: &Names, due: Option<Moment>)
 #[inline(always)]
 fn put_deadline(line: &mut Line, names: &Names, deadline: Moment)
     requires { length line.old ≤ 60 }
-    ensures written { line.new ≡ before (due_words names.now (Some deadline)) line.old }
+    ensures written { line.new ≡ words_and (due_words names.now (Some deadline)) line.old }
     ensures length { length line.new ≤ 33 + length line.old }
 {
     if names.prints_deadline(deadline) {

@@ -2,9 +2,9 @@
 
 ghost use Rattle.std.specs.Prelude.{IfOk, OnOk};
 ghost use Rattle.plan_verifier.specs.Rest.{AreOrderedAhead};
-ghost use Rattle.plan_explain.specs.{Added.Adds, Known.IsJudged};
+ghost use Rattle.plan_explain.specs.{Added.Adds, Known.IsKnownVerdict};
 ghost use Rattle.plan_schedule.specs.Calendars.{HasDeadlines, seen, due_in};
-ghost use Rattle.plan_schedule.specs.{ScheduleLines.AreScheduleLines, Scheduled.AreLinesBehind, Scheduled.IsScheduled};
+ghost use Rattle.plan_schedule.specs.{ScheduleLines.AreScheduleLines, Scheduled.AreVerdictLines, Scheduled.IsScheduled};
 ghost use Rattle.alt_graph.specs.Times.{earliest_of};
 
 use crate::calendar::Calendar;
@@ -30,7 +30,7 @@ pub fn schedule<P: Planned>(
     rest: &Rest<P>,
     verdict: &Judged,
 ) -> Result<Vec<u8>, AllocError>
-    requires { IsJudged rest.now.plan rest.now.cell rest.now.present verdict.now }
+    requires { IsKnownVerdict rest.now.plan rest.now.cell rest.now.present verdict.now }
     ensures { let r = rest.now in
         IfOk result (λ text. IsScheduled names.now r.plan r.cell r.present verdict.now text.items) }
 {
@@ -47,9 +47,9 @@ fn push_lines_behind<P: Planned>(
     rest: &Rest<P>,
     verdict: &Judged,
 ) -> Result<(), AllocError>
-    requires { IsJudged rest.now.plan rest.now.cell rest.now.present verdict.now }
+    requires { IsKnownVerdict rest.now.plan rest.now.cell rest.now.present verdict.now }
     ensures { let r = rest.now in
-        OnOk result (Adds (AreLinesBehind names.now r.plan r.cell r.present verdict.now) text.old.items text.new.items) }
+        OnOk result (Adds (AreVerdictLines names.now r.plan r.cell r.present verdict.now) text.old.items text.new.items) }
 {
     match verdict {
         Judged::Accepted(times) => {

@@ -33,7 +33,7 @@ pub record IsSeriallyLate (t : PlanTask) : Type 0 where
   pub late : IsFirstLate (serial_plan t) job leaves chain
 
 -- the numbers are sound, and the rounds aren't too many
-pub record IsBegun (t : PlanTask) (rounds : ℕ) : Type 0 where
+pub record CanSeek (t : PlanTask) (rounds : ℕ) : Type 0 where
   pub sound : AreSoundNumbers t
   pub few : rounds ≤ MAX_ROUNDS
 
@@ -41,8 +41,8 @@ pub record IsBegun (t : PlanTask) (rounds : ℕ) : Type 0 where
 abbrev pub IsSeekFault : PlanSearch → ℕ → SeekFault → Type 0
 IsSeekFault s rounds (BadNumbers fault) = IsFirstShapeFault (serial_plan s.task) fault
 IsSeekFault s rounds TooManyRounds = AreSoundNumbers s.task × (MAX_ROUNDS < rounds)
-IsSeekFault s rounds Exhausted = IsBegun s.task rounds × EachMayFail s rounds × IsSeriallyLate s.task
-IsSeekFault s rounds Memory = IsBegun s.task rounds
+IsSeekFault s rounds Exhausted = CanSeek s.task rounds × EachMayFail s rounds × IsSeriallyLate s.task
+IsSeekFault s rounds Memory = CanSeek s.task rounds
 
 -- the search is refused for the reason why there is no plan
 abbrev pub IsSearchRefused : PlanSearch → ℕ → NotFound → Type 0

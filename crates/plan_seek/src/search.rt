@@ -2,7 +2,7 @@
 
 ghost use Rattle.std.specs.Prelude.{◌≡◌, ◌≤◌, IfOk, IfErr, OnOk};
 ghost use Rattle.plan_seek.specs.Tasks.{task_of, task_given_back, with_order, IsAccepted};
-ghost use Rattle.plan_seek.specs.{Turns.search_by, Search.IsSoughtPlan, Search.IsSearchRefused, Search.IsBegun};
+ghost use Rattle.plan_seek.specs.{Turns.search_by, Search.IsSoughtPlan, Search.IsSearchRefused, Search.CanSeek};
 
 use crate::attempt::Attempt;
 use crate::proposer::Proposer;
@@ -68,7 +68,7 @@ fn search(
     proposers: &[Box<dyn Proposer>],
     rounds: u32,
 ) -> Result<Verified, NotFound>
-    requires { IsBegun task rounds }
+    requires { CanSeek task rounds }
     ensures same { IfOk result (λ verified. verified.planned ≡ with_order task verified.planned.plan.order) }
     ensures accepted { IfOk result (λ verified. IsAccepted verified.planned) }
     ensures sought { IfOk result (IsSoughtPlan (search_by (λ b. may b) proposers.now task) rounds) }

@@ -6,7 +6,7 @@ use Rattle.toml.specs.Data.{Members}
 use Rattle.plan_text.specs.declared.plan_fault.PlanFault.{PlanFault}
 use Rattle.plan_text.specs.declared.plan_fault.PlanFault.TheVariants.{NotToml, BadVersion, UnknownKey, MissingKey, NotArray, NotWhole, OutOfRange, Memory, NotReadBack}
 use Rattle.plan_text.specs.Documents.{IsDocument, IsPlanText, IsFirstPlanFault, IsNoDocument}
-use Rattle.plan_text.specs.Answers.{IsRead, IsRefused, IsFirstOf, Passes}
+use Rattle.plan_text.specs.Answers.{IsReadPlan, IsRefusedPlan, IsFirstOf, Passes}
 use Rattle.plan_text.specs.Listing.{faults_of}
 use Rattle.plan_text.specs.Reading.{plan_in}
 use Rattle.plan_text.proofs.Tables.{table_found, table_only}
@@ -40,7 +40,7 @@ found text t (Ok plan) document none is = record { table = t; document = documen
 found text t (Err fault) document first is = tt
 
 pub only : (text : List ℕ) (t : Members) (result : Result ShopPlan PlanFault) → IsDocument text t
-    → Passes (faults_of t) result → IfOk result (λ plan. plan ≡ plan_in t) → (plan : ShopPlan) → IsPlanText text plan → IsRead result plan
+    → Passes (faults_of t) result → IfOk result (λ plan. plan ≡ plan_in t) → (plan : ShopPlan) → IsPlanText text plan → IsReadPlan result plan
 only text t (Ok answered) document none is plan h =
     let same = one_table text t h.table document h.document in
     let p = table_only h.table plan h.is in
@@ -60,7 +60,7 @@ fault_is_first text t (Ok plan) document none = tt
 fault_is_first text t (Err fault) document first = λ other. inr (record { table = t; document = document; is = listed_first t fault (first other) })
 
 pub first_is_fault : (text : List ℕ) (t : Members) (result : Result ShopPlan PlanFault) → IsDocument text t
-    → Passes (faults_of t) result → (fault : PlanFault) → IsFirstPlanFault text fault → IsRefused result fault
+    → Passes (faults_of t) result → (fault : PlanFault) → IsFirstPlanFault text fault → IsRefusedPlan result fault
 first_is_fault text t (Ok plan) document none fault h = elim h [
   | inl without ↦ without.none t document
   | inr some ↦

@@ -6,8 +6,8 @@ use Rattle.plan_text.specs.declared.keys.PlanKey.{PlanKey}
 use Rattle.plan_text.specs.declared.keys.PlanKey.TheVariants.{Release, Budget, Order, Clean}
 use Rattle.plan_text.specs.declared.plan_fault.PlanFault.{PlanFault}
 use Rattle.plan_text.specs.declared.plan_fault.PlanFault.TheVariants.{NotToml, BadVersion, UnknownKey, MissingKey, NotArray, NotWhole, OutOfRange, Memory, NotReadBack}
-use Rattle.plan_text.specs.Keys.{limit_of, value_at, version_in}
-use Rattle.plan_text.specs.Numbers.{IsNumber}
+use Rattle.plan_text.specs.Keys.{number_limit, plan_value_at, version_in}
+use Rattle.plan_text.specs.Numbers.{IsNumberOf}
 use Rattle.plan_text.specs.Faults.{HasCleaning, HasBadVersion, HasKey, IsKnownKey, HasUnknownKey, IsWanted, IsListAt, IsElementAt, HasFault}
 use Rattle.plan_text.specs.Listing.{version_faults, has_cleaning, is_known_key, key_faults, missing_faults, number_faults, list_faults, row_faults, order_faults, faults_at, if_cleaning, missing_keys, list_values, content_faults, faults_of}
 use Rattle.plan_text.proofs.Known.{common_key, common_test, same_bytes, test_bytes}
@@ -181,7 +181,7 @@ each_key_in t part fault Clean wanted h =
 -- ---- missing keys
 
 abbrev pub missing_part : Members → PlanKey → List PlanFault
-missing_part t key = missing_faults key (value_at t key)
+missing_part t key = missing_faults key (plan_value_at t key)
 
 pub missing_at : (key : PlanKey) (value : Option Data) (fault : PlanFault) → In fault (missing_faults key value) → (fault ≡ MissingKey key) × (value ≡ None)
 missing_at key None fault h = (only_one fault (MissingKey key) h, refl)
@@ -190,10 +190,10 @@ missing_at key (Some d) fault h = absurd h
 missing_has : (t : Members) (fault : PlanFault) → In fault (missing_keys (has_cleaning (version_in t)) t) → HasFault t fault
 missing_has t fault h =
     let r = each_key_has t (missing_part t) fault h in
-    let p = missing_at r.key (value_at t r.key) fault r.listed in
+    let p = missing_at r.key (plan_value_at t r.key) fault r.listed in
     rw p.0 (r.wanted, p.1)
 
-missing_listed : (t : Members) (key : PlanKey) → IsWanted t key → value_at t key ≡ None → In (MissingKey key) (missing_keys (has_cleaning (version_in t)) t)
+missing_listed : (t : Members) (key : PlanKey) → IsWanted t key → plan_value_at t key ≡ None → In (MissingKey key) (missing_keys (has_cleaning (version_in t)) t)
 missing_listed t key wanted none = each_key_in t (missing_part t) (MissingKey key) key wanted (rw none (inl refl))
 
 -- ---- lists
@@ -201,12 +201,12 @@ missing_listed t key wanted none = each_key_in t (missing_part t) (MissingKey ke
 element_has : (t : Members) (key : PlanKey) (row : Option ℕ) (place : ℕ) (fault : PlanFault) (d : Data) → IsElementAt t key row place d → In fault (number_faults key row place d) → HasFault t fault
 element_has t key row place fault (string s) here h = rw (only_one fault _ h) (record { value = string s; here = here; no_number = λ z e. cc })
 element_has t key row place fault (integer (pos n)) here h =
-    elim (cases_Bool (nat_lt n (limit_of key))) [
+    elim (cases_Bool (nat_lt n (number_limit key))) [
       | inl below ↦ absurd (rw below at h)
-      | inr above ↦ rw (only_one fault _ (rw above at h)) (record { number = pos n; here = here; outside = λ m k. past m k.is k.in_range (ltb-false n (limit_of key) above) })
+      | inr above ↦ rw (only_one fault _ (rw above at h)) (record { number = pos n; here = here; outside = λ m k. past m k.is k.in_range (ltb-false n (number_limit key) above) })
     ]
   where
-    past : (m : ℕ) → integer (pos n) ≡ integer (pos m) → m < limit_of key → limit_of key ≤ n → ⊥
+    past : (m : ℕ) → integer (pos n) ≡ integer (pos m) → m < number_limit key → number_limit key ≤ n → ⊥
     past m e below above = let i : n ≡ m = cc in omega arith
 element_has t key row place fault (integer (negsuc n)) here h = rw (only_one fault _ h) (record { number = negsuc n; here = here; outside = λ m k. let e = k.is in cc })
 element_has t key row place fault (float x) here h = rw (only_one fault _ h) (record { value = float x; here = here; no_number = λ z e. cc })
@@ -231,7 +231,7 @@ list_has t key row fault (array items) holds here h =
     element_has t key row r.index fault r.value (holds items r.index r.value refl r.here) (rw k at r.listed)
 list_has t key row fault (table ms) holds here h = rw (only_one fault _ h) (record { value = table ms; here = here; no_array = λ items e. cc })
 
-order_has : (t : Members) (fault : PlanFault) (d : Data) → value_at t Order ≡ Some d → In fault (order_faults d) → HasFault t fault
+order_has : (t : Members) (fault : PlanFault) (d : Data) → plan_value_at t Order ≡ Some d → In fault (order_faults d) → HasFault t fault
 order_has t fault (string s) here h = rw (only_one fault _ h) (record { value = string s; here = (tt, here); no_array = λ items e. cc })
 order_has t fault (integer z) here h = rw (only_one fault _ h) (record { value = integer z; here = (tt, here); no_array = λ items e. cc })
 order_has t fault (float x) here h = rw (only_one fault _ h) (record { value = float x; here = (tt, here); no_array = λ items e. cc })
@@ -245,10 +245,10 @@ order_has t fault (table ms) here h = rw (only_one fault _ h) (record { value = 
 
 -- the faults of the value of a key
 abbrev pub value_part : Members → PlanKey → List PlanFault
-value_part t Release = faults_at (list_faults Release None) (value_at t Release)
-value_part t Budget = faults_at (list_faults Budget None) (value_at t Budget)
-value_part t Order = faults_at order_faults (value_at t Order)
-value_part t Clean = faults_at (list_faults Clean None) (value_at t Clean)
+value_part t Release = faults_at (list_faults Release None) (plan_value_at t Release)
+value_part t Budget = faults_at (list_faults Budget None) (plan_value_at t Budget)
+value_part t Order = faults_at order_faults (plan_value_at t Order)
+value_part t Clean = faults_at (list_faults Clean None) (plan_value_at t Clean)
 
 -- a fault of a value that is there
 record FromValue (faults : Data → List PlanFault) (value : Option Data) (fault : PlanFault) : Type 0 where
@@ -265,16 +265,16 @@ at_in faults value d fault e h = rw e h
 
 value_has : (t : Members) (key : PlanKey) (fault : PlanFault) → IsWanted t key → In fault (value_part t key) → HasFault t fault
 value_has t Release fault wanted h =
-    let r = at_has (list_faults Release None) (value_at t Release) fault h in
+    let r = at_has (list_faults Release None) (plan_value_at t Release) fault h in
     list_has t Release None fault r.d (λ items place e is there. (items, (tt, r.here ∙ ap (λ (d : Data). Some d) is), there)) (tt, r.here) r.listed
 value_has t Budget fault wanted h =
-    let r = at_has (list_faults Budget None) (value_at t Budget) fault h in
+    let r = at_has (list_faults Budget None) (plan_value_at t Budget) fault h in
     list_has t Budget None fault r.d (λ items place e is there. (items, (tt, r.here ∙ ap (λ (d : Data). Some d) is), there)) (tt, r.here) r.listed
 value_has t Order fault wanted h =
-    let r = at_has order_faults (value_at t Order) fault h in
+    let r = at_has order_faults (plan_value_at t Order) fault h in
     order_has t fault r.d r.here r.listed
 value_has t Clean fault wanted h =
-    let r = at_has (list_faults Clean None) (value_at t Clean) fault h in
+    let r = at_has (list_faults Clean None) (plan_value_at t Clean) fault h in
     list_has t Clean None fault r.d (λ items place e is there. (items, (wanted, r.here ∙ ap (λ (d : Data). Some d) is), there)) (wanted, r.here) r.listed
 
 lists_has : (t : Members) (fault : PlanFault) → In fault (list_values (has_cleaning (version_in t)) t) → HasFault t fault
@@ -308,10 +308,10 @@ no_number_listed key row place (datetime dt) h = inl refl
 no_number_listed key row place (array ds) h = inl refl
 no_number_listed key row place (table ms) h = inl refl
 
-outside_listed : (key : PlanKey) (row : Option ℕ) (place : ℕ) (z : ℤ) → ((n : ℕ) → IsNumber key (integer z) n → ⊥) → In (OutOfRange key row place) (number_faults key row place (integer z))
+outside_listed : (key : PlanKey) (row : Option ℕ) (place : ℕ) (z : ℤ) → ((n : ℕ) → IsNumberOf key (integer z) n → ⊥) → In (OutOfRange key row place) (number_faults key row place (integer z))
 outside_listed key row place (pos n) h =
-    elim (cases_Bool (nat_lt n (limit_of key))) [
-      | inl below ↦ absurd (h n (record { is = refl; in_range = ltb-true n (limit_of key) below }))
+    elim (cases_Bool (nat_lt n (number_limit key))) [
+      | inl below ↦ absurd (h n (record { is = refl; in_range = ltb-true n (number_limit key) below }))
       | inr above ↦ rw above (inl refl)
     ]
 outside_listed key row place (negsuc n) h = inl refl
@@ -345,24 +345,24 @@ row_listed rows machine d fault here h =
     each_in row_faults 0 rows machine d fault here (rw k h)
 
 element_listed : (t : Members) (key : PlanKey) (row : Option ℕ) (place : ℕ) (d : Data) (fault : PlanFault) → IsElementAt t key row place d → In fault (number_faults key row place d) → In fault (list_values (has_cleaning (version_in t)) t)
-element_listed t Release None place d fault here h = each_key_in t (value_part t) fault Release tt (at_in (list_faults Release None) (value_at t Release) (array here.0) fault here.1.1 (list_listed Release None here.0 place d fault here.2 h))
+element_listed t Release None place d fault here h = each_key_in t (value_part t) fault Release tt (at_in (list_faults Release None) (plan_value_at t Release) (array here.0) fault here.1.1 (list_listed Release None here.0 place d fault here.2 h))
 element_listed t Release (Some machine) place d fault here h = absurd here.1
-element_listed t Budget None place d fault here h = each_key_in t (value_part t) fault Budget tt (at_in (list_faults Budget None) (value_at t Budget) (array here.0) fault here.1.1 (list_listed Budget None here.0 place d fault here.2 h))
+element_listed t Budget None place d fault here h = each_key_in t (value_part t) fault Budget tt (at_in (list_faults Budget None) (plan_value_at t Budget) (array here.0) fault here.1.1 (list_listed Budget None here.0 place d fault here.2 h))
 element_listed t Budget (Some machine) place d fault here h = absurd here.1
 element_listed t Order None place d fault here h = absurd here
-element_listed t Order (Some machine) place d fault here h = each_key_in t (value_part t) fault Order tt (at_in order_faults (value_at t Order) (array here.1.0) fault here.1.1
+element_listed t Order (Some machine) place d fault here h = each_key_in t (value_part t) fault Order tt (at_in order_faults (plan_value_at t Order) (array here.1.0) fault here.1.1
     (row_listed here.1.0 machine (array here.0) fault here.1.2 (list_listed Order (Some machine) here.0 place d fault here.2 h)))
-element_listed t Clean None place d fault here h = each_key_in t (value_part t) fault Clean here.1.0 (at_in (list_faults Clean None) (value_at t Clean) (array here.0) fault here.1.1 (list_listed Clean None here.0 place d fault here.2 h))
+element_listed t Clean None place d fault here h = each_key_in t (value_part t) fault Clean here.1.0 (at_in (list_faults Clean None) (plan_value_at t Clean) (array here.0) fault here.1.1 (list_listed Clean None here.0 place d fault here.2 h))
 element_listed t Clean (Some machine) place d fault here h = absurd here.1
 
 array_listed : (t : Members) (key : PlanKey) (row : Option ℕ) (d : Data) → IsListAt t key row d → ((items : Items) → d ≡ array items → ⊥) → In (NotArray key row) (list_values (has_cleaning (version_in t)) t)
-array_listed t Release None d here no_array = each_key_in t (value_part t) _ Release tt (at_in (list_faults Release None) (value_at t Release) d _ here.1 (no_array_listed Release None d no_array))
+array_listed t Release None d here no_array = each_key_in t (value_part t) _ Release tt (at_in (list_faults Release None) (plan_value_at t Release) d _ here.1 (no_array_listed Release None d no_array))
 array_listed t Release (Some machine) d here no_array = absurd here
-array_listed t Budget None d here no_array = each_key_in t (value_part t) _ Budget tt (at_in (list_faults Budget None) (value_at t Budget) d _ here.1 (no_array_listed Budget None d no_array))
+array_listed t Budget None d here no_array = each_key_in t (value_part t) _ Budget tt (at_in (list_faults Budget None) (plan_value_at t Budget) d _ here.1 (no_array_listed Budget None d no_array))
 array_listed t Budget (Some machine) d here no_array = absurd here
-array_listed t Order None d here no_array = each_key_in t (value_part t) _ Order tt (at_in order_faults (value_at t Order) d _ here.1 (no_order_listed d no_array))
-array_listed t Order (Some machine) d here no_array = each_key_in t (value_part t) _ Order tt (at_in order_faults (value_at t Order) (array here.0) _ here.1 (row_listed here.0 machine d _ here.2 (no_array_listed Order (Some machine) d no_array)))
-array_listed t Clean None d here no_array = each_key_in t (value_part t) _ Clean here.0 (at_in (list_faults Clean None) (value_at t Clean) d _ here.1 (no_array_listed Clean None d no_array))
+array_listed t Order None d here no_array = each_key_in t (value_part t) _ Order tt (at_in order_faults (plan_value_at t Order) d _ here.1 (no_order_listed d no_array))
+array_listed t Order (Some machine) d here no_array = each_key_in t (value_part t) _ Order tt (at_in order_faults (plan_value_at t Order) (array here.0) _ here.1 (row_listed here.0 machine d _ here.2 (no_array_listed Order (Some machine) d no_array)))
+array_listed t Clean None d here no_array = each_key_in t (value_part t) _ Clean here.0 (at_in (list_faults Clean None) (plan_value_at t Clean) d _ here.1 (no_array_listed Clean None d no_array))
 array_listed t Clean (Some machine) d here no_array = absurd here
 
 in_content : (t : Members) (fault : PlanFault) → In fault (content_faults (has_cleaning (version_in t)) t) → In fault (faults_of t)

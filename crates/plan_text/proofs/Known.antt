@@ -10,7 +10,7 @@ use Rattle.toml.specs.View.{members_view}
 use Rattle.toml.specs.declared.value.Value.{Value}
 use Rattle.plan_text.specs.declared.keys.PlanKey.TheVariants.{Release, Budget, Order, Clean}
 use Rattle.plan_text.specs.declared.plan_fault.PlanFault.TheVariants.{UnknownKey}
-use Rattle.plan_text.specs.Keys.{name_of, version_key}
+use Rattle.plan_text.specs.Keys.{key_name, version_key}
 use Rattle.plan_text.specs.Plans.{IsCommonKey, IsKeyOf, HasOnlyKeys}
 use Rattle.plan_text.specs.Answers.{IsFirstOf}
 use Rattle.plan_text.specs.Listing.{is_common_key, is_known_key, key_faults}
@@ -45,11 +45,11 @@ test_bytes key name e = (bytes_eq-Decides key name).1 e
 
 pub common_key : (key : List ℕ) → is_common_key key ≡ true → IsCommonKey key
 common_key key h =
-    elim (or_cases (bytes_eq key version_key || bytes_eq key (name_of Release) || bytes_eq key (name_of Budget)) (bytes_eq key (name_of Order)) h) [
+    elim (or_cases (bytes_eq key version_key || bytes_eq key (key_name Release) || bytes_eq key (key_name Budget)) (bytes_eq key (key_name Order)) h) [
       | inr order ↦ inr (inr (inr (same_bytes key _ order)))
-      | inl rest ↦ elim (or_cases (bytes_eq key version_key || bytes_eq key (name_of Release)) (bytes_eq key (name_of Budget)) rest) [
+      | inl rest ↦ elim (or_cases (bytes_eq key version_key || bytes_eq key (key_name Release)) (bytes_eq key (key_name Budget)) rest) [
         | inr budget ↦ inr (inr (inl (same_bytes key _ budget)))
-        | inl rest ↦ elim (or_cases (bytes_eq key version_key) (bytes_eq key (name_of Release)) rest) [
+        | inl rest ↦ elim (or_cases (bytes_eq key version_key) (bytes_eq key (key_name Release)) rest) [
           | inl version ↦ inl (same_bytes key _ version)
           | inr release ↦ inr (inl (same_bytes key _ release))
         ]
@@ -75,7 +75,7 @@ has_times (Some times) = true
 
 known_key : (clean : Option (List ℕ)) (key : List ℕ) → is_known_key (has_times clean) key ≡ true → IsKeyOf clean key
 known_key None key h = common_key key h
-known_key (Some times) key h = elim (or_cases (is_common_key key) (bytes_eq key (name_of Clean)) h) [
+known_key (Some times) key h = elim (or_cases (is_common_key key) (bytes_eq key (key_name Clean)) h) [
   | inl common ↦ inl (common_key key common)
   | inr clean ↦ inr (same_bytes key _ clean)
 ]

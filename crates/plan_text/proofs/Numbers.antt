@@ -6,8 +6,8 @@ use Rattle.toml.specs.Data.{Data, string, integer, float, boolean, datetime, arr
 use Rattle.plan_text.specs.declared.keys.PlanKey.{PlanKey}
 use Rattle.plan_text.specs.declared.keys.PlanKey.TheVariants.{Order}
 use Rattle.plan_text.specs.declared.plan_fault.PlanFault.{PlanFault}
-use Rattle.plan_text.specs.Keys.{limit_of}
-use Rattle.plan_text.specs.Numbers.{AreEach, IsNumber, IsNumberArray, IsRow, IsRowArray}
+use Rattle.plan_text.specs.Keys.{number_limit}
+use Rattle.plan_text.specs.Numbers.{AreEach, IsNumberOf, IsNumberArray, IsRow, IsRowArray}
 use Rattle.plan_text.specs.Listing.{number_faults, each_faults, list_faults, row_faults, order_faults, faults_at, missing_faults}
 use Rattle.plan_text.specs.Reading.{number_in, numbers_in, rows_in, each_item, list_at}
 
@@ -21,11 +21,11 @@ none_both a b e h = rw e h
 
 -- ---- one number
 
-pub number_found : (key : PlanKey) (row : Option ℕ) (place : ℕ) (d : Data) → number_faults key row place d ≡ [] → IsNumber key d (number_in d)
+pub number_found : (key : PlanKey) (row : Option ℕ) (place : ℕ) (d : Data) → number_faults key row place d ≡ [] → IsNumberOf key d (number_in d)
 number_found key row place (string s) h = cc
 number_found key row place (integer (pos n)) h =
-    elim (cases_Bool (nat_lt n (limit_of key))) [
-      | inl below ↦ record { is = refl; in_range = ltb-true n (limit_of key) below }
+    elim (cases_Bool (nat_lt n (number_limit key))) [
+      | inl below ↦ record { is = refl; in_range = ltb-true n (number_limit key) below }
       | inr above ↦ let e = rw above at h in cc
     ]
 number_found key row place (integer (negsuc n)) h = cc
@@ -35,8 +35,8 @@ number_found key row place (datetime dt) h = cc
 number_found key row place (array ds) h = cc
 number_found key row place (table ms) h = cc
 
-pub number_only : (key : PlanKey) (row : Option ℕ) (place : ℕ) (d : Data) (n : ℕ) → IsNumber key d n → (number_faults key row place d ≡ []) × (n ≡ number_in d)
-number_only key row place d n h = rw h.is (rw (lt-ltb n (limit_of key) h.in_range) refl, refl)
+pub number_only : (key : PlanKey) (row : Option ℕ) (place : ℕ) (d : Data) (n : ℕ) → IsNumberOf key d n → (number_faults key row place d ≡ []) × (n ≡ number_in d)
+number_only key row place d n h = rw h.is (rw (lt-ltb n (number_limit key) h.in_range) refl, refl)
 
 -- ---- each item
 
@@ -67,13 +67,13 @@ list_found key row (integer z) h = cc
 list_found key row (float x) h = cc
 list_found key row (boolean b) h = cc
 list_found key row (datetime dt) h = cc
-list_found key row (array items) h = record { items = items; is = refl; each = each_found (number_faults key row) (IsNumber key) number_in (number_found key row) 0 items h }
+list_found key row (array items) h = record { items = items; is = refl; each = each_found (number_faults key row) (IsNumberOf key) number_in (number_found key row) 0 items h }
 list_found key row (table ms) h = cc
 
 pub list_only : (key : PlanKey) (row : Option ℕ) (d : Data) (numbers : List ℕ) → IsNumberArray key (Some d) numbers → (list_faults key row d ≡ []) × (numbers ≡ numbers_in d)
 list_only key row d numbers h =
     let e : d ≡ array h.items = same_Some d (array h.items) h.is in
-    rw e (each_only (number_faults key row) (IsNumber key) number_in (number_only key row) 0 h.items numbers h.each)
+    rw e (each_only (number_faults key row) (IsNumberOf key) number_in (number_only key row) 0 h.items numbers h.each)
 
 -- ---- an array of rows
 

@@ -3,7 +3,7 @@ use Rattle.std.proofs.Common.{◌≡◌, [], ◌++◌, None, refl}
 use Rattle.shop_base.specs.Plan.{ShopPlan}
 use Rattle.toml.specs.Data.{Members}
 use Rattle.plan_text.specs.declared.keys.PlanKey.TheVariants.{Release, Budget, Order}
-use Rattle.plan_text.specs.Keys.{value_at, version_in}
+use Rattle.plan_text.specs.Keys.{plan_value_at, version_in}
 use Rattle.plan_text.specs.Plans.{IsPlanTable}
 use Rattle.plan_text.specs.Listing.{version_faults, has_cleaning, key_faults, missing_faults, missing_keys, list_faults, order_faults, faults_at, list_values, content_faults, faults_of}
 use Rattle.plan_text.specs.Reading.{clean_in, plan_in, plan_with}
@@ -17,18 +17,18 @@ table_found t h =
     let version = none_parts (version_faults (version_in t)) (content_faults cleaning t) h in
     let known = none_parts (key_faults cleaning t) (missing_keys cleaning t ++ list_values cleaning t) version.1 in
     let parts = none_parts (missing_keys cleaning t) (list_values cleaning t) known.1 in
-    let m0 = none_parts (missing_faults Release (value_at t Release)) _ parts.0 in
-    let m1 = none_parts (missing_faults Budget (value_at t Budget)) _ m0.1 in
-    let m2 = none_parts (missing_faults Order (value_at t Order)) _ m1.1 in
-    let l0 = none_parts (faults_at (list_faults Release None) (value_at t Release)) _ parts.1 in
-    let l1 = none_parts (faults_at (list_faults Budget None) (value_at t Budget)) _ l0.1 in
-    let l2 = none_parts (faults_at order_faults (value_at t Order)) _ l1.1 in
+    let m0 = none_parts (missing_faults Release (plan_value_at t Release)) _ parts.0 in
+    let m1 = none_parts (missing_faults Budget (plan_value_at t Budget)) _ m0.1 in
+    let m2 = none_parts (missing_faults Order (plan_value_at t Order)) _ m1.1 in
+    let l0 = none_parts (faults_at (list_faults Release None) (plan_value_at t Release)) _ parts.1 in
+    let l1 = none_parts (faults_at (list_faults Budget None) (plan_value_at t Budget)) _ l0.1 in
+    let l2 = none_parts (faults_at order_faults (plan_value_at t Order)) _ l1.1 in
     record {
       version = version_found (version_in t) t version.0;
       keys = keys_found (clean_in cleaning t) t (rw (has_times-clean_in cleaning t) known.0);
-      release = list_at_found Release (value_at t Release) m0.0 l0.0;
-      budget = list_at_found Budget (value_at t Budget) m1.0 l1.0;
-      order = rows_at_found (value_at t Order) m2.0 l2.0;
+      release = list_at_found Release (plan_value_at t Release) m0.0 l0.0;
+      budget = list_at_found Budget (plan_value_at t Budget) m1.0 l1.0;
+      order = rows_at_found (plan_value_at t Order) m2.0 l2.0;
       clean = clean_found cleaning t m2.1 l2.1;
     }
 
@@ -41,9 +41,9 @@ pub table_only : (t : Members) (plan : ShopPlan) → IsPlanTable t plan → (fau
 table_only t plan h =
     let version = version_only plan.clean (version_in t) h.version in
     let known = keys_only plan.clean t h.keys in
-    let release = list_at_only Release (value_at t Release) plan.release h.release in
-    let budget = list_at_only Budget (value_at t Budget) plan.budget h.budget in
-    let order = rows_at_only (value_at t Order) plan.order h.order in
+    let release = list_at_only Release (plan_value_at t Release) plan.release h.release in
+    let budget = list_at_only Budget (plan_value_at t Budget) plan.budget h.budget in
+    let order = rows_at_only (plan_value_at t Order) plan.order h.order in
     let clean = clean_only plan.clean t h.clean in
     let there : missing_keys (has_times plan.clean) t ≡ [] = none_both _ _ release.0 (none_both _ _ budget.0 (none_both _ _ order.0 clean.0)) in
     let lists : list_values (has_times plan.clean) t ≡ [] = none_both _ _ release.1 (none_both _ _ budget.1 (none_both _ _ order.1 clean.1)) in

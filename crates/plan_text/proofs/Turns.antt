@@ -5,7 +5,7 @@ use Rattle.plan_text.specs.declared.keys.PlanKey.{PlanKey}
 use Rattle.plan_text.specs.declared.keys.PlanKey.TheVariants.{Release, Budget, Order, Clean}
 use Rattle.plan_text.specs.declared.plan_fault.PlanFault.{PlanFault}
 use Rattle.plan_text.specs.declared.plan_fault.PlanFault.TheVariants.{BadVersion, UnknownKey, MissingKey, NotArray, NotWhole, OutOfRange}
-use Rattle.plan_text.specs.Keys.{limit_of, value_at, version_in}
+use Rattle.plan_text.specs.Keys.{number_limit, plan_value_at, version_in}
 use Rattle.plan_text.specs.Answers.{IsFirstOf}
 use Rattle.plan_text.specs.Faults.{place_of, list_turn, turn_of, IsTurnBefore, IsFirstTableFault}
 use Rattle.plan_text.specs.Listing.{unless, version_faults, has_cleaning, key_faults, number_faults, each_faults, list_faults, row_faults, order_faults, faults_at, if_cleaning, missing_keys, list_values, content_faults, faults_of}
@@ -116,7 +116,7 @@ unless_leads false fault = λ other h. absurd h
 
 number_leads : (key : PlanKey) (row : Option ℕ) (place : ℕ) (d : Data) → Leads (number_faults key row place d)
 number_leads key row place (string s) = λ other h. absurd h
-number_leads key row place (integer (pos n)) = unless_leads (nat_lt n (limit_of key)) (OutOfRange key row place)
+number_leads key row place (integer (pos n)) = unless_leads (nat_lt n (number_limit key)) (OutOfRange key row place)
 number_leads key row place (integer (negsuc n)) = λ other h. absurd h
 number_leads key row place (float x) = λ other h. absurd h
 number_leads key row place (boolean b) = λ other h. absurd h
@@ -130,7 +130,7 @@ unless_one false fault other h = only_one fault other h
 
 number_turn : (key : PlanKey) (row : Option ℕ) (place : ℕ) (d : Data) (fault : PlanFault) → In fault (number_faults key row place d) → turn_of fault ≡ 3 ∷ list_turn key row (place ∷ [])
 number_turn key row place (string s) fault h = ap turn_of (only_one fault (NotWhole key row place) h)
-number_turn key row place (integer (pos n)) fault h = ap turn_of (unless_one (nat_lt n (limit_of key)) fault (OutOfRange key row place) h)
+number_turn key row place (integer (pos n)) fault h = ap turn_of (unless_one (nat_lt n (number_limit key)) fault (OutOfRange key row place) h)
 number_turn key row place (integer (negsuc n)) fault h = ap turn_of (only_one fault (OutOfRange key row place) h)
 number_turn key row place (float x) fault h = ap turn_of (only_one fault (NotWhole key row place) h)
 number_turn key row place (boolean b) fault h = ap turn_of (only_one fault (NotWhole key row place) h)
@@ -202,16 +202,16 @@ at_starts faults None p fault starts h = absurd h
 at_starts faults (Some d) p fault starts h = starts d h
 
 value_leads : (t : Members) (key : PlanKey) → Leads (value_part t key)
-value_leads t Release = at_leads (list_faults Release None) (value_at t Release) (list_leads Release None)
-value_leads t Budget = at_leads (list_faults Budget None) (value_at t Budget) (list_leads Budget None)
-value_leads t Order = at_leads order_faults (value_at t Order) order_leads
-value_leads t Clean = at_leads (list_faults Clean None) (value_at t Clean) (list_leads Clean None)
+value_leads t Release = at_leads (list_faults Release None) (plan_value_at t Release) (list_leads Release None)
+value_leads t Budget = at_leads (list_faults Budget None) (plan_value_at t Budget) (list_leads Budget None)
+value_leads t Order = at_leads order_faults (plan_value_at t Order) order_leads
+value_leads t Clean = at_leads (list_faults Clean None) (plan_value_at t Clean) (list_leads Clean None)
 
 value_starts : (t : Members) (key : PlanKey) (fault : PlanFault) → In fault (value_part t key) → Starts (3 ∷ place_of key ∷ []) (turn_of fault)
-value_starts t Release fault h = at_starts (list_faults Release None) (value_at t Release) (3 ∷ 0 ∷ []) fault (λ d k. list_starts Release None d fault k) h
-value_starts t Budget fault h = at_starts (list_faults Budget None) (value_at t Budget) (3 ∷ 1 ∷ []) fault (λ d k. list_starts Budget None d fault k) h
-value_starts t Order fault h = at_starts order_faults (value_at t Order) (3 ∷ 2 ∷ []) fault (λ d k. order_starts d fault k) h
-value_starts t Clean fault h = at_starts (list_faults Clean None) (value_at t Clean) (3 ∷ 3 ∷ []) fault (λ d k. list_starts Clean None d fault k) h
+value_starts t Release fault h = at_starts (list_faults Release None) (plan_value_at t Release) (3 ∷ 0 ∷ []) fault (λ d k. list_starts Release None d fault k) h
+value_starts t Budget fault h = at_starts (list_faults Budget None) (plan_value_at t Budget) (3 ∷ 1 ∷ []) fault (λ d k. list_starts Budget None d fault k) h
+value_starts t Order fault h = at_starts order_faults (plan_value_at t Order) (3 ∷ 2 ∷ []) fault (λ d k. order_starts d fault k) h
+value_starts t Clean fault h = at_starts (list_faults Clean None) (plan_value_at t Clean) (3 ∷ 3 ∷ []) fault (λ d k. list_starts Clean None d fault k) h
 
 -- ---- the keys of a version, and the whole
 
@@ -237,13 +237,13 @@ version_alike None fault h = absurd h
 version_alike (Some d) fault h = (bad_version fault d h).0
 
 missing_starts : (t : Members) (key : PlanKey) (fault : PlanFault) → In fault (missing_part t key) → Starts (2 ∷ place_of key ∷ []) (turn_of fault)
-missing_starts t key fault h = rw (missing_at key (value_at t key) fault h).0 (starts_itself (2 ∷ place_of key ∷ []))
+missing_starts t key fault h = rw (missing_at key (plan_value_at t key) fault h).0 (starts_itself (2 ∷ place_of key ∷ []))
 
 faults_lead : (t : Members) → Leads (faults_of t)
 faults_lead t =
     let cleaning = has_cleaning (version_in t) in
     let lists = part_keys 3 cleaning (value_part t) (value_leads t) (value_starts t) in
-    let missing = part_keys 2 cleaning (missing_part t) (λ key. leads_alike (missing_part t key) (MissingKey key) (λ fault h. (missing_at key (value_at t key) fault h).0)) (missing_starts t) in
+    let missing = part_keys 2 cleaning (missing_part t) (λ key. leads_alike (missing_part t key) (MissingKey key) (λ fault h. (missing_at key (plan_value_at t key) fault h).0)) (missing_starts t) in
     let p3 = part_last [] 3 (list_values cleaning t) lists.leads (part_starts 3 (list_values cleaning t) lists) in
     let p2 = part_append [] 2 3 (missing_keys cleaning t) (list_values cleaning t) missing.leads (part_starts 2 (missing_keys cleaning t) missing) (omega arith) p3 in
     let known : (fault : PlanFault) → In fault (key_faults cleaning t) → fault ≡ UnknownKey = λ fault h. (unknown_has cleaning t fault h).0 in

@@ -3,7 +3,7 @@ use Rattle.std.proofs.Common.{◌≡◌, ℕ, ◌==◌, pos, negsuc, Bool, true,
 use Rattle.std.proofs.lemmas.Bool.{cases_Bool, eqb-true}
 use Rattle.toml.specs.Data.{Data, string, integer, float, boolean, datetime, array, table, Members}
 use Rattle.plan_text.specs.declared.keys.PlanKey.TheVariants.{Clean}
-use Rattle.plan_text.specs.Keys.{value_at}
+use Rattle.plan_text.specs.Keys.{plan_value_at}
 use Rattle.plan_text.specs.Plans.{IsVersionOf, IsCleanArray}
 use Rattle.plan_text.specs.Listing.{version_faults, has_cleaning, if_cleaning, missing_faults, list_faults, faults_at}
 use Rattle.plan_text.specs.Reading.{clean_in}
@@ -42,14 +42,14 @@ version_only None version h = elim h [
 ]
 version_only (Some times) version h = rw h (refl, refl)
 
-pub clean_found : (cleaning : Bool) (t : Members) → if_cleaning cleaning (missing_faults Clean (value_at t Clean)) ≡ [] → if_cleaning cleaning (faults_at (list_faults Clean None) (value_at t Clean)) ≡ []
-    → IsCleanArray (clean_in cleaning t) (value_at t Clean)
-clean_found true t there h = list_at_found Clean (value_at t Clean) there h
+pub clean_found : (cleaning : Bool) (t : Members) → if_cleaning cleaning (missing_faults Clean (plan_value_at t Clean)) ≡ [] → if_cleaning cleaning (faults_at (list_faults Clean None) (plan_value_at t Clean)) ≡ []
+    → IsCleanArray (clean_in cleaning t) (plan_value_at t Clean)
+clean_found true t there h = list_at_found Clean (plan_value_at t Clean) there h
 clean_found false t there h = tt
 
-pub clean_only : (clean : Option (List ℕ)) (t : Members) → IsCleanArray clean (value_at t Clean)
-    → (if_cleaning (has_times clean) (missing_faults Clean (value_at t Clean)) ≡ []) × (if_cleaning (has_times clean) (faults_at (list_faults Clean None) (value_at t Clean)) ≡ []) × (clean ≡ clean_in (has_times clean) t)
+pub clean_only : (clean : Option (List ℕ)) (t : Members) → IsCleanArray clean (plan_value_at t Clean)
+    → (if_cleaning (has_times clean) (missing_faults Clean (plan_value_at t Clean)) ≡ []) × (if_cleaning (has_times clean) (faults_at (list_faults Clean None) (plan_value_at t Clean)) ≡ []) × (clean ≡ clean_in (has_times clean) t)
 clean_only None t h = (refl, refl, refl)
 clean_only (Some times) t h =
-    let p = list_at_only Clean (value_at t Clean) times h in
+    let p = list_at_only Clean (plan_value_at t Clean) times h in
     (p.0, p.1, ap (λ (numbers : List ℕ). Some numbers) p.2)

@@ -7,14 +7,14 @@ use Rattle.plan_text.specs.declared.plan_fault.PlanFault.{PlanFault}
 use Rattle.plan_text.specs.declared.plan_fault.PlanFault.TheVariants.{NotToml, Memory}
 
 -- the answer is this plan, unless memory ran out
-abbrev pub IsRead : Result ShopPlan PlanFault → ShopPlan → Type 0
-IsRead (Ok answered) plan = answered ≡ plan
-IsRead (Err fault) plan = fault ≡ Memory
+abbrev pub IsReadPlan : Result ShopPlan PlanFault → ShopPlan → Type 0
+IsReadPlan (Ok answered) plan = answered ≡ plan
+IsReadPlan (Err fault) plan = fault ≡ Memory
 
 -- the answer is this fault, unless memory ran out
-abbrev pub IsRefused : Result ShopPlan PlanFault → PlanFault → Type 0
-IsRefused (Ok answered) fault = ⊥
-IsRefused (Err answered) fault = answered ≢ Memory → answered ≡ fault
+abbrev pub IsRefusedPlan : Result ShopPlan PlanFault → PlanFault → Type 0
+IsRefusedPlan (Ok answered) fault = ⊥
+IsRefusedPlan (Err answered) fault = answered ≢ Memory → answered ≡ fault
 
 -- the fault is the first of these
 abbrev pub IsFirstOf : List PlanFault → PlanFault → Type 0

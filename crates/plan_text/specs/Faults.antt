@@ -5,8 +5,8 @@ use Rattle.plan_text.specs.declared.keys.PlanKey.{PlanKey}
 use Rattle.plan_text.specs.declared.keys.PlanKey.TheVariants.{Release, Budget, Order, Clean}
 use Rattle.plan_text.specs.declared.plan_fault.PlanFault.{PlanFault}
 use Rattle.plan_text.specs.declared.plan_fault.PlanFault.TheVariants.{NotToml, BadVersion, UnknownKey, MissingKey, NotArray, NotWhole, OutOfRange, Memory, NotReadBack}
-use Rattle.plan_text.specs.Keys.{name_of, value_at, version_in}
-use Rattle.plan_text.specs.Numbers.{IsNumber}
+use Rattle.plan_text.specs.Keys.{key_name, plan_value_at, version_in}
+use Rattle.plan_text.specs.Numbers.{IsNumberOf}
 use Rattle.plan_text.specs.Plans.{IsCommonKey}
 
 -- the table's version is 2, that of plans with cleaning
@@ -27,7 +27,7 @@ HasKey key (member other d rest) = (key ≡ other) ⊎ HasKey key rest
 
 -- the key is one of those of the table's version
 abbrev pub IsKnownKey : Members → List ℕ → Type 0
-IsKnownKey table key = IsCommonKey key ⊎ ((key ≡ name_of Clean) × HasCleaning table)
+IsKnownKey table key = IsCommonKey key ⊎ ((key ≡ key_name Clean) × HasCleaning table)
 
 -- the table has a key that isn't
 pub record HasUnknownKey (table : Members) : Type 0 where
@@ -42,8 +42,8 @@ IsWanted table key = Unit {0}
 
 -- the value stands where the table's version wants a list: at a key, or as a row of the order
 abbrev pub IsListAt : Members → PlanKey → Option ℕ → Data → Type 0
-IsListAt table key None d = IsWanted table key × (value_at table key ≡ Some d)
-IsListAt table Order (Some machine) d = (rows : Items) × (value_at table Order ≡ Some (array rows)) × (get_item machine rows ≡ Some d)
+IsListAt table key None d = IsWanted table key × (plan_value_at table key ≡ Some d)
+IsListAt table Order (Some machine) d = (rows : Items) × (plan_value_at table Order ≡ Some (array rows)) × (get_item machine rows ≡ Some d)
 IsListAt table key (Some machine) d = ⊥
 
 -- the value stands where a number is wanted: at a place of a list, which for the order is a row
@@ -67,14 +67,14 @@ pub record HasNoNumber (table : Members) (key : PlanKey) (row : Option ℕ) (pla
 pub record HasNumberOutside (table : Members) (key : PlanKey) (row : Option ℕ) (place : ℕ) : Type 0 where
   pub number : ℤ
   pub here : IsElementAt table key row place (integer number)
-  pub outside : (n : ℕ) → IsNumber key (integer number) n → ⊥
+  pub outside : (n : ℕ) → IsNumberOf key (integer number) n → ⊥
 
 -- the table has the fault
 abbrev pub HasFault : Members → PlanFault → Type 0
 HasFault table NotToml = ⊥
 HasFault table BadVersion = HasBadVersion table
 HasFault table UnknownKey = HasUnknownKey table
-HasFault table (MissingKey key) = IsWanted table key × (value_at table key ≡ None)
+HasFault table (MissingKey key) = IsWanted table key × (plan_value_at table key ≡ None)
 HasFault table (NotArray key row) = HasNoArray table key row
 HasFault table (NotWhole key row place) = HasNoNumber table key row place
 HasFault table (OutOfRange key row place) = HasNumberOutside table key row place

@@ -4,7 +4,7 @@ use Rattle.std.specs.List.{flat_map}
 use Rattle.shop_base.specs.Plan.{ShopPlan}
 use Rattle.plan_text.specs.declared.keys.PlanKey.{PlanKey}
 use Rattle.plan_text.specs.declared.keys.PlanKey.TheVariants.{Release, Budget, Order, Clean}
-use Rattle.plan_text.specs.Keys.{name_of, version_key}
+use Rattle.plan_text.specs.Keys.{key_name, version_key}
 
 -- the elements behind the first one, each with a comma and a space before it
 abbrev pub after_first : {A : Type 0} → (A → List ℕ) → List A → List ℕ
@@ -20,16 +20,16 @@ abbrev pub numbers_text : List ℕ → List ℕ
 numbers_text numbers = list_text decimal numbers
 
 -- a list of such lists
-abbrev pub rows_text : List (List ℕ) → List ℕ
-rows_text rows = list_text numbers_text rows
+abbrev pub lists_text : List (List ℕ) → List ℕ
+lists_text rows = list_text numbers_text rows
 
 -- the line of a key
 abbrev pub key_line : PlanKey → List ℕ → List ℕ
-key_line key value = name_of key ++ (codes " = " ++ (value ++ codes "\n"))
+key_line key value = key_name key ++ (codes " = " ++ (value ++ codes "\n"))
 
 -- the three lines of every plan
 abbrev pub three_lines : ShopPlan → List ℕ
-three_lines plan = key_line Release (numbers_text plan.release) ++ (key_line Budget (numbers_text plan.budget) ++ key_line Order (rows_text plan.order))
+three_lines plan = key_line Release (numbers_text plan.release) ++ (key_line Budget (numbers_text plan.budget) ++ key_line Order (lists_text plan.order))
 
 -- the line of version 2
 abbrev pub version_line : List ℕ

@@ -6,7 +6,7 @@ use Rattle.plan_text.specs.declared.keys.PlanKey.{PlanKey}
 use Rattle.plan_text.specs.declared.keys.PlanKey.TheVariants.{Release, Budget, Order, Clean}
 use Rattle.plan_text.specs.declared.plan_fault.PlanFault.{PlanFault}
 use Rattle.plan_text.specs.declared.plan_fault.PlanFault.TheVariants.{BadVersion, UnknownKey, MissingKey, NotArray, NotWhole, OutOfRange}
-use Rattle.plan_text.specs.Keys.{name_of, version_key, limit_of, value_at, version_in}
+use Rattle.plan_text.specs.Keys.{key_name, version_key, number_limit, plan_value_at, version_in}
 
 -- the fault, where it is one
 abbrev pub unless : Bool → PlanFault → List PlanFault
@@ -28,11 +28,11 @@ has_cleaning (Some d) = false
 
 -- whether a key is one of every plan text
 abbrev pub is_common_key : List ℕ → Bool
-is_common_key key = bytes_eq key version_key || bytes_eq key (name_of Release) || bytes_eq key (name_of Budget) || bytes_eq key (name_of Order)
+is_common_key key = bytes_eq key version_key || bytes_eq key (key_name Release) || bytes_eq key (key_name Budget) || bytes_eq key (key_name Order)
 
 -- whether a key is one of a plan text, with cleaning or without
 abbrev pub is_known_key : Bool → List ℕ → Bool
-is_known_key true key = is_common_key key || bytes_eq key (name_of Clean)
+is_known_key true key = is_common_key key || bytes_eq key (key_name Clean)
 is_known_key false key = is_common_key key
 
 -- each key has to be one of the plan's
@@ -47,7 +47,7 @@ missing_faults key (Some d) = []
 
 -- an element has to be a whole number within the range
 abbrev pub number_faults : PlanKey → Option ℕ → ℕ → Data → List PlanFault
-number_faults key row place (integer (pos n)) = unless (nat_lt n (limit_of key)) (OutOfRange key row place)
+number_faults key row place (integer (pos n)) = unless (nat_lt n (number_limit key)) (OutOfRange key row place)
 number_faults key row place (integer (negsuc n)) = OutOfRange key row place ∷ []
 number_faults key row place d = NotWhole key row place ∷ []
 
@@ -81,20 +81,20 @@ if_cleaning cleaning faults = if cleaning then faults else []
 
 -- the keys have to be there
 abbrev pub missing_keys : Bool → Members → List PlanFault
-missing_keys cleaning table = missing_faults Release (value_at table Release)
-    ++ (missing_faults Budget (value_at table Budget)
-    ++ (missing_faults Order (value_at table Order)
-    ++ if_cleaning cleaning (missing_faults Clean (value_at table Clean))))
+missing_keys cleaning table = missing_faults Release (plan_value_at table Release)
+    ++ (missing_faults Budget (plan_value_at table Budget)
+    ++ (missing_faults Order (plan_value_at table Order)
+    ++ if_cleaning cleaning (missing_faults Clean (plan_value_at table Clean))))
 
 -- the cleaning times have to be right, where the version has some
 abbrev pub clean_faults : Bool → Members → List PlanFault
-clean_faults cleaning table = if_cleaning cleaning (faults_at (list_faults Clean None) (value_at table Clean))
+clean_faults cleaning table = if_cleaning cleaning (faults_at (list_faults Clean None) (plan_value_at table Clean))
 
 -- the lists have to be right
 abbrev pub list_values : Bool → Members → List PlanFault
-list_values cleaning table = faults_at (list_faults Release None) (value_at table Release)
-    ++ (faults_at (list_faults Budget None) (value_at table Budget)
-    ++ (faults_at order_faults (value_at table Order)
+list_values cleaning table = faults_at (list_faults Release None) (plan_value_at table Release)
+    ++ (faults_at (list_faults Budget None) (plan_value_at table Budget)
+    ++ (faults_at order_faults (plan_value_at table Order)
     ++ clean_faults cleaning table))
 
 -- the faults of a table whose version has cleaning, or hasn't: keys that aren't known, missing keys, and then the lists

@@ -3,7 +3,7 @@ use Rattle.std.specs.Prelude.{◌≡◌, ℕ, ◌⊎◌, pos, List, Option, None
 use Rattle.shop_base.specs.Plan.{ShopPlan}
 use Rattle.toml.specs.Data.{Data, integer, Members, no_members, member}
 use Rattle.plan_text.specs.declared.keys.PlanKey.TheVariants.{Release, Budget, Order, Clean}
-use Rattle.plan_text.specs.Keys.{name_of, version_key, value_at, version_in}
+use Rattle.plan_text.specs.Keys.{key_name, version_key, plan_value_at, version_in}
 use Rattle.plan_text.specs.Numbers.{IsNumberArray, IsRowArray}
 
 -- a plan without cleaning has version 1, which may be left out, and one with cleaning has version 2
@@ -13,12 +13,12 @@ IsVersionOf (Some times) version = version ≡ Some (integer (pos 2))
 
 -- the key is one of every plan text
 abbrev pub IsCommonKey : List ℕ → Type 0
-IsCommonKey key = (key ≡ version_key) ⊎ (key ≡ name_of Release) ⊎ (key ≡ name_of Budget) ⊎ (key ≡ name_of Order)
+IsCommonKey key = (key ≡ version_key) ⊎ (key ≡ key_name Release) ⊎ (key ≡ key_name Budget) ⊎ (key ≡ key_name Order)
 
 -- the key is one of a plan text, with cleaning or without
 abbrev pub IsKeyOf : Option (List ℕ) → List ℕ → Type 0
 IsKeyOf None key = IsCommonKey key
-IsKeyOf (Some times) key = IsCommonKey key ⊎ (key ≡ name_of Clean)
+IsKeyOf (Some times) key = IsCommonKey key ⊎ (key ≡ key_name Clean)
 
 -- each key of the table is one of such a plan text
 abbrev pub HasOnlyKeys : Option (List ℕ) → Members → Type 0
@@ -34,7 +34,7 @@ IsCleanArray (Some times) value = IsNumberArray Clean value times
 pub record IsPlanTable (table : Members) (plan : ShopPlan) : Type 0 where
   pub version : IsVersionOf plan.clean (version_in table)
   pub keys : HasOnlyKeys plan.clean table
-  pub release : IsNumberArray Release (value_at table Release) plan.release
-  pub budget : IsNumberArray Budget (value_at table Budget) plan.budget
-  pub order : IsRowArray (value_at table Order) plan.order
-  pub clean : IsCleanArray plan.clean (value_at table Clean)
+  pub release : IsNumberArray Release (plan_value_at table Release) plan.release
+  pub budget : IsNumberArray Budget (plan_value_at table Budget) plan.budget
+  pub order : IsRowArray (plan_value_at table Order) plan.order
+  pub clean : IsCleanArray plan.clean (plan_value_at table Clean)

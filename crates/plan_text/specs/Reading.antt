@@ -3,7 +3,7 @@ use Rattle.std.specs.Prelude.{ℕ, pos, Bool, true, false, List, [], ◌∷◌, 
 use Rattle.shop_base.specs.Plan.{ShopPlan}
 use Rattle.toml.specs.Data.{Data, integer, array, Items, no_items, item, Members}
 use Rattle.plan_text.specs.declared.keys.PlanKey.TheVariants.{Release, Budget, Order, Clean}
-use Rattle.plan_text.specs.Keys.{value_at, version_in}
+use Rattle.plan_text.specs.Keys.{plan_value_at, version_in}
 use Rattle.plan_text.specs.Listing.{has_cleaning}
 
 -- a whole number
@@ -33,15 +33,15 @@ list_at list (Some d) = list d
 
 -- the cleaning times, where the version has some
 abbrev pub clean_in : Bool → Members → Option (List ℕ)
-clean_in true table = Some (list_at numbers_in (value_at table Clean))
+clean_in true table = Some (list_at numbers_in (plan_value_at table Clean))
 clean_in false table = None
 
 -- the plan of a table
 abbrev pub plan_with : Bool → Members → ShopPlan
 plan_with cleaning table = record {
-  release = list_at numbers_in (value_at table Release);
-  budget = list_at numbers_in (value_at table Budget);
-  order = list_at rows_in (value_at table Order);
+  release = list_at numbers_in (plan_value_at table Release);
+  budget = list_at numbers_in (plan_value_at table Budget);
+  order = list_at rows_in (plan_value_at table Order);
   clean = clean_in cleaning table;
 }
 

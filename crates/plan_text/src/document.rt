@@ -3,7 +3,7 @@
 ghost use Rattle.std.specs.Prelude.{◌≡◌, ◌⊎◌, ◌++◌, Err, IfOk, OnOk, IfErr, MatchBool, string_bytes};
 ghost use Rattle.shop_base.specs.Vectors.{lists_of};
 ghost use Rattle.plan_text.specs.Documents.{IsPlanText};
-ghost use Rattle.plan_text.specs.Lines.{list_text, after_first, numbers_text, rows_text, key_line};
+ghost use Rattle.plan_text.specs.Lines.{list_text, after_first, numbers_text, lists_text, key_line};
 ghost use Rattle.plan_text.specs.Lines.{three_lines, version_line, plan_lines};
 
 use crate::compare::is_same;
@@ -55,7 +55,7 @@ fn push_more_rows(text: &mut String, rows: &[Vec<JobNo>]) -> Result<(), AllocErr
 }
 
 fn push_rows(text: &mut String, rows: &[Vec<JobNo>]) -> Result<(), AllocError>
-    ensures { OnOk result (string_bytes text.new ≡ string_bytes text.old ++ rows_text (lists_of rows.now)) }
+    ensures { OnOk result (string_bytes text.new ≡ string_bytes text.old ++ lists_text (lists_of rows.now)) }
 {
     let [first, rest @ ..] = rows else {
         return text.push_str("[]");
@@ -77,7 +77,7 @@ fn push_line(text: &mut String, key: PlanKey, numbers: &[Moment]) -> Result<(), 
 
 fn push_order_line(text: &mut String, rows: &[Vec<JobNo>]) -> Result<(), AllocError>
     ensures { OnOk result
-        (string_bytes text.new ≡ string_bytes text.old ++ key_line PlanKey.Order (rows_text (lists_of rows.now))) }
+        (string_bytes text.new ≡ string_bytes text.old ++ key_line PlanKey.Order (lists_text (lists_of rows.now))) }
 {
     text.push_str(PlanKey::Order.name())?;
     text.push_str(" = ")?;

@@ -5,7 +5,7 @@ ghost use Rattle.std.specs.List.{list_all};
 ghost use Rattle.std.specs.Str.{bytes_eq};
 ghost use Rattle.std.specs.BTreeMap.{keys};
 ghost use Rattle.toml.specs.{Data.get_member, View.view, View.table_view};
-ghost use Rattle.plan_text.specs.{Keys.name_of, Keys.value_at, Keys.version_in, Answers.PassesExactly};
+ghost use Rattle.plan_text.specs.{Keys.key_name, Keys.plan_value_at, Keys.version_in, Answers.PassesExactly};
 ghost use Rattle.plan_text.specs.Listing.{version_faults, has_cleaning, is_common_key, is_known_key, key_faults};
 ghost use Rattle.plan_text.specs.Listing.{missing_faults, missing_keys};
 
@@ -32,7 +32,7 @@ pub enum PlanKey {
 impl PlanKey {
     /// The key as it is in a text.
     pub fn name(self) -> &'static str
-        ensures { result.now ≡ name_of self }
+        ensures { result.now ≡ key_name self }
     {
         match self {
             PlanKey::Release => "release",
@@ -44,7 +44,7 @@ impl PlanKey {
 }
 
 impl fmt::Display for PlanKey {
-    ghost output = { λ key. Some (name_of key) };
+    ghost output = { λ key. Some (key_name key) };
 
     fn fmt<W: fmt::Write>(&self, f: &mut fmt::Formatter<W>) -> fmt::Result {
         f.write_str(self.name())
@@ -74,7 +74,7 @@ pub(crate) fn check_version(table: &Table) -> Result<bool, PlanFault>
 }
 
 fn is_key(key: &str, wanted: PlanKey) -> bool
-    ensures { result ≡ bytes_eq key.now (name_of wanted) }
+    ensures { result ≡ bytes_eq key.now (key_name wanted) }
 {
     key == wanted.name()
 }
@@ -111,7 +111,7 @@ pub(crate) fn check_known(table: &Table, cleaning: bool) -> Result<(), PlanFault
 }
 
 fn check_key(table: &Table, key: PlanKey) -> Result<(), PlanFault>
-    ensures { PassesExactly (missing_faults key (value_at (table_view table.now) key)) result }
+    ensures { PassesExactly (missing_faults key (plan_value_at (table_view table.now) key)) result }
 {
     match value_of(table, key.name()) {
         Some(_) => Ok(()),

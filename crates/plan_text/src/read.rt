@@ -3,9 +3,9 @@
 ghost use Rattle.std.specs.Prelude.{◌≡◌, ◌≢◌, IfOk, IfErr, None, Some};
 ghost use Rattle.shop_base.specs.{Vectors.lists_of, Vectors.list_of, Plan.ShopPlan};
 ghost use Rattle.toml.specs.View.{table_view};
-ghost use Rattle.plan_text.specs.{declared.plan_fault.PlanFault.PlanFault, Keys.value_at};
+ghost use Rattle.plan_text.specs.{declared.plan_fault.PlanFault.PlanFault, Keys.plan_value_at};
 ghost use Rattle.plan_text.specs.Documents.{IsDocument, IsNoDocument, IsPlanText, IsFirstPlanFault};
-ghost use Rattle.plan_text.specs.Answers.{IsRead, IsRefused, Passes};
+ghost use Rattle.plan_text.specs.Answers.{IsReadPlan, IsRefusedPlan, Passes};
 ghost use Rattle.plan_text.specs.Reading.{numbers_in, rows_in, list_at, clean_in, plan_with, plan_in};
 ghost use Rattle.plan_text.specs.Listing.{list_faults, order_faults, faults_at, clean_faults, list_values, faults_of};
 
@@ -19,8 +19,8 @@ use toml::Table;
 /// The moments of a key, where the table has it.
 fn moments_at(alloc: Global, table: &Table, key: PlanKey) -> Result<Vec<Moment>, PlanFault>
     requires { key ≢ PlanKey.Order }
-    ensures faults { Passes (faults_at (list_faults key None) (value_at (table_view table.now) key)) result }
-    ensures value { IfOk result (λ moments. moments.items ≡ list_at numbers_in (value_at (table_view table.now) key)) }
+    ensures faults { Passes (faults_at (list_faults key None) (plan_value_at (table_view table.now) key)) result }
+    ensures value { IfOk result (λ moments. moments.items ≡ list_at numbers_in (plan_value_at (table_view table.now) key)) }
 {
     match value_of(table, key.name()) {
         Some(value) => moments_in(alloc, key, value),
@@ -30,9 +30,9 @@ fn moments_at(alloc: Global, table: &Table, key: PlanKey) -> Result<Vec<Moment>,
 
 /// The rows of the order, where the table has one.
 fn rows_at(alloc: Global, table: &Table) -> Result<Vec<Vec<JobNo>>, PlanFault>
-    ensures faults { Passes (faults_at order_faults (value_at (table_view table.now) PlanKey.Order)) result }
+    ensures faults { Passes (faults_at order_faults (plan_value_at (table_view table.now) PlanKey.Order)) result }
     ensures value { IfOk result
-        (λ rows. lists_of rows.items ≡ list_at rows_in (value_at (table_view table.now) PlanKey.Order)) }
+        (λ rows. lists_of rows.items ≡ list_at rows_in (plan_value_at (table_view table.now) PlanKey.Order)) }
 {
     match value_of(table, PlanKey::Order.name()) {
         Some(value) => rows_in(alloc, value),
@@ -99,11 +99,11 @@ fn table_of(alloc: Global, text: &[u8]) -> Result<Table, PlanFault>
 pub fn read_plan(alloc: Global, text: &[u8]) -> Result<Plan, PlanFault>
     // What is read is the text's plan, and the text's plan is read.
     ensures found { IfOk result (λ plan. IsPlanText text.now plan) }
-    ensures only { (plan : ShopPlan) → IsPlanText text.now plan → IsRead result plan }
+    ensures only { (plan : ShopPlan) → IsPlanText text.now plan → IsReadPlan result plan }
 
     // A fault is what is wrong first, and what is wrong first is the fault.
     ensures fault { IfErr result (λ fault. fault ≢ PlanFault.Memory → IsFirstPlanFault text.now fault) }
-    ensures first { (fault : PlanFault) → IsFirstPlanFault text.now fault → IsRefused result fault }
+    ensures first { (fault : PlanFault) → IsFirstPlanFault text.now fault → IsRefusedPlan result fault }
 {
     match table_of(alloc, text) {
         Ok(table) => plan_of(alloc, &table),

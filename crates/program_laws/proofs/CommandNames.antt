@@ -1,7 +1,7 @@
 -- Two commands that have one word are one.
 use Rattle.std.proofs.Common.{◌≡◌, ◌∙◌, if◌then◌else◌, ℕ, List, Option, None, Some, ap, codes, refl, sym}
 use Rattle.std.specs.Prelude.{bytes_eq}
-use Rattle.command_words.specs.Choice.{word_of}
+use Rattle.command_words.specs.Choice.{command_word_of}
 use Rattle.command_words.specs.declared.words.CommandName.{CommandName}
 use Rattle.command_words.specs.declared.words.CommandName.TheVariants.{Input, Facts, Shape, Check, Explain, Schedule, Bounds, Margin, Plan, Improve, Decide, Revise, Drive, Resume, Hub, Digest, Audit, Gantt}
 
@@ -27,7 +27,7 @@ command_of (Some word) = if bytes_eq word (codes "facts") then Facts
     else Gantt
 
 -- each command is that of its word
-is_command_of : (name : CommandName) → command_of (word_of name) ≡ name
+is_command_of : (name : CommandName) → command_of (command_word_of name) ≡ name
 is_command_of Input = refl
 is_command_of Facts = refl
 is_command_of Shape = refl
@@ -47,5 +47,5 @@ is_command_of Digest = refl
 is_command_of Audit = refl
 is_command_of Gantt = refl
 
-pub same_command : (name other : CommandName) → word_of name ≡ word_of other → name ≡ other
+pub same_command : (name other : CommandName) → command_word_of name ≡ command_word_of other → name ≡ other
 same_command name other same = sym (is_command_of name) ∙ ap command_of same ∙ is_command_of other

@@ -16,7 +16,7 @@ use Rattle.command_answers.proofs.Unnamed.{unnamed}
 use Rattle.command_run.specs.Streams.{Streams}
 use Rattle.command_run.specs.Improvers.{AsksOne, Improves}
 use Rattle.command_run.specs.Pictures.{Draws}
-use Rattle.command_run.specs.Laws.{ByShape, GivesRun, HasText, IsAnswered, IsRunDrawn, ParseAsPlan, Shelf, log_paths}
+use Rattle.command_run.specs.Laws.{ByShape, GivesRun, HasText, IsAnswerOfFiles, IsRunDrawn, ParseAsPlan, Shelf, log_paths}
 use Rattle.program_laws.proofs.GoodFiles.{answered, asked_and_read, came_drawn, no_memory, with_both}
 
 module _ (content : List ℕ → Result (List ℕ) CommandFault) (run : RunPaths) (p : PlannedShop) (text : Option (List ℕ)) where
@@ -44,7 +44,7 @@ module _ (content : List ℕ → Result (List ℕ) CommandFault) (run : RunPaths
   module _ {B : Type 0} (Line : (Answer → Type 0) → B → Type 0) (Comes : PlannedShop → NameBook → Option (List ℕ) → B → Type 0) (good : GivesRun content run p text) where
     -- no names are asked for
     read : (outcome : Result B CommandFault) (asked : List (List ℕ)) → WithNamesAndRun (Shelf content) run.names run.log p (λ book log. IsOrMemory (Comes p book log)) (run.inputs.path ∷ run.inputs.plan ∷ []) outcome asked
-        → IsAnswered (Comes p no_names text) (run.inputs.path ∷ run.inputs.plan ∷ log_paths run.log) outcome asked
+        → IsAnswerOfFiles (Comes p no_names text) (run.inputs.path ∷ run.inputs.plan ∷ log_paths run.log) outcome asked
     read outcome asked on =
         let start = run.inputs.path ∷ run.inputs.plan ∷ [] in
         let none = subst (λ (names : Option (List ℕ)). WithNamesAndRun (Shelf content) names run.log p (λ book log. IsOrMemory (Comes p book log)) start outcome asked) good.unnamed on in
@@ -53,13 +53,13 @@ module _ (content : List ℕ → Result (List ℕ) CommandFault) (run : RunPaths
 
     there : (job : Option ℕ) (outcome : Result B CommandFault) (asked : List (List ℕ)) → job ≡ None
         → IfThereBy Line job p (WithNamesAndRun (Shelf content) run.names run.log p (λ book log. IsOrMemory (Comes p book log))) (run.inputs.path ∷ run.inputs.plan ∷ []) outcome asked
-        → IsAnswered (Comes p no_names text) (run.inputs.path ∷ run.inputs.plan ∷ log_paths run.log) outcome asked
+        → IsAnswerOfFiles (Comes p no_names text) (run.inputs.path ∷ run.inputs.plan ∷ log_paths run.log) outcome asked
     there None outcome asked none on = read outcome asked on
     there (Some j) outcome asked none on = absurd (cc none)
 
     -- where the plan is well shaped this comes, or else its line
     abbrev Came : Result B CommandFault → List (List ℕ) → Type 0
-    Came outcome asked = ByShape p run (λ files. IsAnswered (Comes p no_names text) files outcome asked) (λ files. IsAnswered (Line (IsNotShapedLine p)) files outcome asked)
+    Came outcome asked = ByShape p run (λ files. IsAnswerOfFiles (Comes p no_names text) files outcome asked) (λ files. IsAnswerOfFiles (Line (IsNotShapedLine p)) files outcome asked)
 
     run_came : (job : Option ℕ) (outcome : Result B CommandFault) (asked : List (List ℕ)) → job ≡ None
         → IfShapedBy Line p (IfThereBy Line job p (WithNamesAndRun (Shelf content) run.names run.log p (λ book log. IsOrMemory (Comes p book log)))) (run.inputs.path ∷ run.inputs.plan ∷ []) outcome asked ⊎ (outcome ≡ Err Memory)
@@ -76,6 +76,6 @@ module _ (content : List ℕ → Result (List ℕ) CommandFault) (run : RunPaths
 
 -- what comes of a run is drawn
 pub run_drawn : (p : PlannedShop) (run : RunPaths) (Is : Drawn → Type 0) (drawn : Result Drawn CommandFault) (before after : Streams) (outcome : Result Answer CommandFault) (asked : List (List ℕ))
-    → ByShape p run (λ files. IsAnswered Is files drawn asked) (λ files. IsAnswered (IsLineAlone (IsNotShapedLine p)) files drawn asked) → Draws drawn before after outcome → IsRunDrawn Is p run before outcome asked after
+    → ByShape p run (λ files. IsAnswerOfFiles Is files drawn asked) (λ files. IsAnswerOfFiles (IsLineAlone (IsNotShapedLine p)) files drawn asked) → Draws drawn before after outcome → IsRunDrawn Is p run before outcome asked after
 run_drawn p run Is drawn before after outcome asked (inl (shaped, is)) draws = inl (shaped, came_drawn Is _ drawn before after outcome asked is draws)
 run_drawn p run Is drawn before after outcome asked (inr is) draws = inr (came_drawn (IsLineAlone (IsNotShapedLine p)) _ drawn before after outcome asked is draws)

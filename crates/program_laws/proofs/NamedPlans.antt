@@ -13,7 +13,7 @@ use Rattle.run_journal.specs.declared.log_run.LogRun.{LogRun}
 use Rattle.run_journal.specs.declared.log_run.LogRun.TheVariants.{Named}
 use Rattle.run_journal.specs.Folders.{Folder, NamedLog, held, handed_if}
 use Rattle.run_journal.specs.Logged.{Held}
-use Rattle.run_journal.specs.LogRuns.{IsRunOf, NameLast}
+use Rattle.run_journal.specs.LogRuns.{IsLogRunOf, NameLast}
 use Rattle.run_journal.specs.WholeLines.{whole_lines}
 use Rattle.run_journal.proofs.LogRuns.{last_run}
 use Rattle.logged_drive.specs.declared.recovered_log.RecoverFault.{RecoverFault}
@@ -73,7 +73,7 @@ module _ (p : PlannedShop) (digits : RunDigits) (bytes : List ℕ) (named : Name
       some [] none is = absurd none
       some (x ∷ xs) names is = log_plan p protocol at q (x ∷ xs) is.0.recovered step is.0.takes is.0.goes_on driven
 
-  as_asked : (folder after : Folder) (path : List ℕ) (start : LogStart) (protocol : Protocol) (at : Option ℕ) (q : PlannedShop) (run : LogRun) (misfit : Option Misfit) (step : Step) → IsRunOf (lines_of (whole_lines bytes)) run
+  as_asked : (folder after : Folder) (path : List ℕ) (start : LogStart) (protocol : Protocol) (at : Option ℕ) (q : PlannedShop) (run : LogRun) (misfit : Option Misfit) (step : Step) → IsLogRunOf (lines_of (whole_lines bytes)) run
       → (start ≡ HandOver → ⊥) → MatchOption misfit ((m : Misfit) → IsMisfit start run (digits_in q) m → ⊥) (IsMisfit start run (digits_in q)) → DrivesAs folder after path misfit protocol at q (Some bytes) step → DrivenBy p step.log → ⊥
   as_asked folder after path start protocol at q run (Some m) step parses asked is drives driven = never p step.log (Some (Found bytes)) drives.1.is (undriven p (Some bytes)) driven
   as_asked folder after path start protocol at q run None step parses asked none drives driven =

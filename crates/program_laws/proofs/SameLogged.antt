@@ -35,7 +35,7 @@ use Rattle.run_journal.specs.declared.log_run.LogRun.{LogRun}
 use Rattle.run_journal.specs.declared.file_fault.FileFault.TheVariants.{Log as LogFault}
 use Rattle.run_journal.specs.Folders.{Folder, NamedLog, handed_if, held}
 use Rattle.run_journal.specs.Logged.{Held, fault_if}
-use Rattle.run_journal.specs.LogRuns.{IsRunOf}
+use Rattle.run_journal.specs.LogRuns.{IsLogRunOf}
 use Rattle.run_journal.specs.WholeLines.{whole_lines}
 use Rattle.logged_drive.specs.declared.recovered_log.RecoverFault.{RecoverFault}
 use Rattle.logged_drive.specs.declared.recovered_log.RecoverFault.TheVariants.{Resume, NoTornEnd, File}
@@ -47,7 +47,7 @@ use Rattle.command_words.specs.declared.words.CommandName.TheVariants.{Drive}
 use Rattle.command_words.specs.declared.words.log_start.LogStart.{LogStart}
 use Rattle.command_words.specs.declared.words.WordsFault.{WordsFault}
 use Rattle.command_words.specs.declared.words.WordsFault.TheVariants.{Usage, Memory as NoWordsMemory}
-use Rattle.command_words.specs.Choice.{IsChoiceOf, NamesOneOf, found_in, rows_found, start_in}
+use Rattle.command_words.specs.Choice.{IsChoiceOf, NamesOneOf, found_in, rows_found, start_chosen}
 use Rattle.command_answers.specs.declared.answer.Answer.{Answer}
 use Rattle.command_answers.specs.declared.command_fault.CommandFault.{CommandFault}
 use Rattle.command_answers.specs.declared.command_fault.CommandFault.TheVariants.{Write, Log as ShownFault, Memory}
@@ -60,8 +60,8 @@ use Rattle.command_run.specs.Ending.{Ends, EndsBy}
 use Rattle.command_run.specs.Misfits.{IsMisfit}
 use Rattle.command_run.specs.declared.misfits.Misfit.{Misfit}
 use Rattle.command_run.specs.Logs.{BeginsAccepted, BeginsBy, Begins, ContinuesRecovered, Driven, DrivesAs, DrivesFitting, DrivesFound, DrivesOpened, DrivesShaped, DrivesWithLog, GoesOnAfter, IsLogFaultPrinted, IsLoggedAnswer, IsNewLogFault, IsVerdict, LogEnd, NotRecovered, Unlined, Unread, RecoversLog, bytes_in, digits_in, fault_of, logged_command_fault, step_of, with_output}
-use Rattle.command_run.specs.Program.{AreWordsRead, Follows, IsShown, RunsChosen, RunsLoggedDrive, draws, given_log_in, inputs_in, keeps_log, kept_log_in, log_given_to, log_kept_by, protocol_in, status_by}
-use Rattle.command_run.specs.Laws.{IsAnswered, ParseAsPlan, Shelf}
+use Rattle.command_run.specs.Program.{AreWordsRead, Follows, IsOutputLog, RunsChosen, RunsLoggedDrive, draws, given_log_in, inputs_in, keeps_log, kept_log_in, log_given_to, log_kept_by, protocol_in, status_by}
+use Rattle.command_run.specs.Laws.{IsAnswerOfFiles, ParseAsPlan, Shelf}
 use Rattle.program_laws.specs.HistoryLaw.{protocol_of}
 use Rattle.program_laws.specs.LoggedLaw.{AskForLoggedDrive, CanBeDriven, IsAsAsked, LoggedDriveWritesTheSame, RunsWellWithLog}
 use Rattle.program_laws.specs.ResumeLaw.{GoesToLog, moment_given}
@@ -108,7 +108,7 @@ LogWrote p protocol at (Some (byte ∷ bytes)) input status written = Resumed p 
 
 -- nothing is amiss of a log with these bytes, if it is there, that has to begin so
 abbrev Fits : PlannedShop → LogStart → Option (List ℕ) → Type 0
-Fits p start there = (run : LogRun) (misfit : Misfit) → IsRunOf (lines_of (whole_lines (bytes_in there))) run → IsMisfit start run (digits_in p) misfit → ⊥
+Fits p start there = (run : LogRun) (misfit : Misfit) → IsLogRunOf (lines_of (whole_lines (bytes_in there))) run → IsMisfit start run (digits_in p) misfit → ⊥
 
 -- a fault that isn't want of memory broke off what was streamed
 streamed_of : {S : Type 0} (T : Type 0) (answers : S → ℕ → Option (List ℕ) → List ℕ → S → Type 0) (closes : S → List ℕ → Type 0) (start last : S) (before after : Streams) (fault : DriveFault)
@@ -325,14 +325,14 @@ module _ (content : List ℕ → Result (List ℕ) CommandFault) (words : List (
           let same : there ≡ found = sym (here found refl) in
           subst (λ (o : Option (List ℕ)). LogWrote p protocol at o input status written) (here found refl)
           (as_asked (handed_if (is_some found) run.well.before.folder) start at found (subst (CanBeDriven p at) same can)
-          (λ run_of misfit parses. fits run_of misfit (subst (λ (o : Option (List ℕ)). IsRunOf (lines_of (whole_lines (bytes_in o))) run_of) (here found refl) parses)) drives)
+          (λ run_of misfit parses. fits run_of misfit (subst (λ (o : Option (List ℕ)). IsLogRunOf (lines_of (whole_lines (bytes_in o))) run_of) (here found refl) parses)) drives)
       opened start at can fits (Err fault) here (_, _, inl is) = absurd (no_folder_fault _ fault is.1 refl)
       opened start at can fits (Err fault) here (_, _, inr is) = absurd (no_fault (Unread fault) fault is.2 refl)
 
       -- of the plan that the files give
       shaped_so : (files : List (List ℕ)) (start : LogStart) (at : Option ℕ) → IsWellShaped p → CanBeDriven p at there
           → Fits p start there
-          → (shape : Result (Result PlannedShop ShapeFault) CommandFault) (asked : List (List ℕ)) → IsAnswered (IsShapedOrNot p) files shape asked
+          → (shape : Result (Result PlannedShop ShapeFault) CommandFault) (asked : List (List ℕ)) → IsAnswerOfFiles (IsShapedOrNot p) files shape asked
           → DrivesShaped run.well.before.folder run.well.after.folder path start protocol at shape (step_of run.well.before.streams outcome mid run.well.log) → LogWrote p protocol at there input status written
       shaped_so files start at shaped can fits (Err fault) asked is drives = absurd (no_memory (drives.0 ∙ ap Err is))
       shaped_so files start at shaped can fits (Ok (Err fault)) asked is drives = absurd (shape_fault_refutes p fault is.0 shaped)
@@ -348,7 +348,7 @@ module _ (content : List ℕ → Result (List ℕ) CommandFault) (words : List (
               same ∙ run.was
 
   -- where its output goes to the log
-  shown_so : (outcome : Result Answer CommandFault) (mid : Streams) (own : ℕ) → IsShown (Some path) run.well.before.folder true → outcome ≡ Err ShownFault → mid ≡ run.well.before.streams
+  shown_so : (outcome : Result Answer CommandFault) (mid : Streams) (own : ℕ) → IsOutputLog (Some path) run.well.before.folder true → outcome ≡ Err ShownFault → mid ≡ run.well.before.streams
       → Ends outcome mid.output run.well.after.streams.output run.well.before.errors run.well.after.errors own → status ≡ status_by (Some path) run.well.log outcome own → GoesToLog content words input status written run.well path
   shown_so outcome mid own shown is same ends status_is =
       let ended = log_ends outcome mid.output run.well.after.streams.output run.well.before.errors run.well.after.errors own is ends in
@@ -363,13 +363,13 @@ module _ (content : List ℕ → Result (List ℕ) CommandFault) (words : List (
       let step = step_of run.well.before.streams outcome mid run.well.log in
       let logged : RunsLoggedDrive (Shelf content) run.well.before.folder run.well.after.folder path chosen.start (protocol_in chosen) chosen.at (inputs_in chosen) run.well.before.texts step run.well.after.texts =
       subst (λ (l : Option (List ℕ)). RunsChosen (Shelf content) l chosen run.well.before outcome mid run.well.after run.well.log) kept chosen_runs in
-      let runs : RunsLoggedDrive (Shelf content) run.well.before.folder run.well.after.folder path (start_in (rows_found (found_in words))) (protocol_of words) (moment_given words) inputs [] step run.well.after.texts =
+      let runs : RunsLoggedDrive (Shelf content) run.well.before.folder run.well.after.folder path (start_chosen (rows_found (found_in words))) (protocol_of words) (moment_given words) inputs [] step run.well.after.texts =
       subst (λ (s : LogStart). RunsLoggedDrive (Shelf content) run.well.before.folder run.well.after.folder path s (protocol_of words) (moment_given words) inputs [] step run.well.after.texts) choice.start
       (subst (λ (m : Protocol). RunsLoggedDrive (Shelf content) run.well.before.folder run.well.after.folder path chosen.start m (moment_given words) inputs [] step run.well.after.texts) (same_manner words chosen choice)
       (subst (λ (a : Option ℕ). RunsLoggedDrive (Shelf content) run.well.before.folder run.well.after.folder path chosen.start (protocol_in chosen) a inputs [] step run.well.after.texts) choice.at
       (subst (λ (i : InputPaths). RunsLoggedDrive (Shelf content) run.well.before.folder run.well.after.folder path chosen.start (protocol_in chosen) chosen.at i [] step run.well.after.texts) (asked_pair words inputs path chosen ask.files choice)
       (subst (λ (asked : List (List ℕ)). RunsLoggedDrive (Shelf content) run.well.before.folder run.well.after.folder path chosen.start (protocol_in chosen) chosen.at (inputs_in chosen) asked step run.well.after.texts) run.well.unasked logged)))) in
-      shaped_so outcome mid own same_input ends status_is p (protocol_of words) _ (start_in (rows_found (found_in words))) (moment_given words) shaped can as_asked runs.shaped run.well.after.texts
+      shaped_so outcome mid own same_input ends status_is p (protocol_of words) _ (start_chosen (rows_found (found_in words))) (moment_given words) shaped can as_asked runs.shaped run.well.after.texts
       (good_plan content inputs p good IsShapedOrNot runs.shaped run.well.after.texts runs.shapes) runs.drives
 
   follows_logged : (inputs : InputPaths) (p : PlannedShop) (read : Result Chosen WordsFault) → AskForLoggedDrive words inputs path → ParseAsPlan content inputs p → IsWellShaped p → IsAsAsked words p there

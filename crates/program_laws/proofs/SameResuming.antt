@@ -39,7 +39,7 @@ use Rattle.command_run.specs.Streams.{Streams, Output}
 use Rattle.command_run.specs.Drives.{IsEndAnswer, status_at}
 use Rattle.command_run.specs.Resumes.{IsRecovery, IsUnrecoveredAnswer, ResumesRecovered, end_of_rest}
 use Rattle.command_run.specs.Ending.{Ends, EndsBy}
-use Rattle.command_run.specs.Program.{AreWordsRead, RunsResume, RunsCommand, RunsChosen, Follows, IsShown, draws, file_at, given_log_in, is_second, keeps_log, kept_log_in, log_given_to, log_kept_by, protocol_in, inputs_in}
+use Rattle.command_run.specs.Program.{AreWordsRead, RunsResume, RunsCommand, RunsChosen, Follows, IsOutputLog, draws, file_at, given_log_in, is_second, keeps_log, kept_log_in, log_given_to, log_kept_by, protocol_in, inputs_in}
 use Rattle.command_run.specs.Laws.{Shelf, ParseAsPlan, RunsWell}
 use Rattle.program_laws.specs.ResumeLaw.{AskForResume, AskForOneManner, GoesToLog, moment_given, ResumeWritesTheSame, ResumeWritesAsDrive}
 use Rattle.program_laws.specs.HistoryLaw.{protocol_of}
@@ -157,7 +157,7 @@ module _ (content : List ℕ → Result (List ℕ) CommandFault) (words : List (
         absurd (never_out (subst (λ (f : ResumeFault). IsUnrecoveredAnswer f outcome) (is.can can) on.0))
 
   -- where its output goes to the log
-  shown_so : (log : List ℕ) (outcome : Result Answer CommandFault) (mid : Streams) → IsShown (Some log) well.before.folder true → outcome ≡ Err LogFault → mid ≡ well.before.streams
+  shown_so : (log : List ℕ) (outcome : Result Answer CommandFault) (mid : Streams) → IsOutputLog (Some log) well.before.folder true → outcome ≡ Err LogFault → mid ≡ well.before.streams
       → Ends outcome mid.output well.after.streams.output well.before.errors well.after.errors status → GoesToLog content words input status written well log
   shown_so log outcome mid shown is same ends =
       let ended = log_ends outcome mid.output well.after.streams.output well.before.errors well.after.errors status is ends in

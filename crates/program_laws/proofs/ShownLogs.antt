@@ -8,13 +8,13 @@ use Rattle.command_answers.specs.declared.command_fault.CommandFault.TheVariants
 use Rattle.command_run.specs.Streams.{Devices, Streams, Errors, Output}
 use Rattle.command_run.specs.Ending.{Ends, IsFaultPrinted}
 use Rattle.command_run.specs.Logs.{LogEnd}
-use Rattle.command_run.specs.Program.{IsShown, RunsApart, RunsBy, RunsChosen, given_log_in, kept_log_in, status_by}
+use Rattle.command_run.specs.Program.{IsOutputLog, RunsApart, RunsBy, RunsChosen, given_log_in, kept_log_in, status_by}
 use Rattle.command_run.specs.Laws.{RunsWell, Shelf}
 
 module _ {W : Type 0} (gives : W → List ℕ → Result (List ℕ) CommandFault → W → Type 0) (chosen : Chosen) (before : Devices W) (outcome : Result Answer CommandFault) (mid : Streams) (after : Devices W) (log : Option LogEnd) where
   -- a command that is given no log is run
   pub apart_runs : given_log_in chosen ≡ None → RunsApart gives chosen before outcome mid after log → RunsChosen gives (kept_log_in chosen) chosen before outcome mid after log
-  apart_runs none runs = by runs.shown (subst (λ (l : Option (List ℕ)). IsShown l before.folder runs.shown) none runs.known) runs.by
+  apart_runs none runs = by runs.shown (subst (λ (l : Option (List ℕ)). IsOutputLog l before.folder runs.shown) none runs.known) runs.by
     where
       by : (shown : Bool) → shown ≡ false → RunsBy gives shown chosen before outcome mid after log → RunsChosen gives (kept_log_in chosen) chosen before outcome mid after log
       by true never refused = absurd (cc never)
@@ -49,10 +49,10 @@ module _ (content : List ℕ → Result (List ℕ) CommandFault) (words : List (
     (chosen : Chosen) (log : List ℕ) (outcome : Result Answer CommandFault) (mid : Streams) where
   -- a command that is given this log is run, unless the output goes to that
   pub run_or_shown : given_log_in chosen ≡ Some log → RunsApart (Shelf content) chosen well.before outcome mid well.after well.log
-      → (IsShown (Some log) well.before.folder true × (outcome ≡ Err Log) × (mid ≡ well.before.streams)) ⊎ RunsChosen (Shelf content) (kept_log_in chosen) chosen well.before outcome mid well.after well.log
-  run_or_shown given runs = by runs.shown (subst (λ (l : Option (List ℕ)). IsShown l well.before.folder runs.shown) given runs.known) runs.by
+      → (IsOutputLog (Some log) well.before.folder true × (outcome ≡ Err Log) × (mid ≡ well.before.streams)) ⊎ RunsChosen (Shelf content) (kept_log_in chosen) chosen well.before outcome mid well.after well.log
+  run_or_shown given runs = by runs.shown (subst (λ (l : Option (List ℕ)). IsOutputLog l well.before.folder runs.shown) given runs.known) runs.by
     where
-      by : (shown : Bool) → IsShown (Some log) well.before.folder shown → RunsBy (Shelf content) shown chosen well.before outcome mid well.after well.log
-          → (IsShown (Some log) well.before.folder true × (outcome ≡ Err Log) × (mid ≡ well.before.streams)) ⊎ RunsChosen (Shelf content) (kept_log_in chosen) chosen well.before outcome mid well.after well.log
+      by : (shown : Bool) → IsOutputLog (Some log) well.before.folder shown → RunsBy (Shelf content) shown chosen well.before outcome mid well.after well.log
+          → (IsOutputLog (Some log) well.before.folder true × (outcome ≡ Err Log) × (mid ≡ well.before.streams)) ⊎ RunsChosen (Shelf content) (kept_log_in chosen) chosen well.before outcome mid well.after well.log
       by true known refused = inl (known, refused.0, refused.1)
       by false known run = inr run

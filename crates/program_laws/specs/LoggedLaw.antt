@@ -7,11 +7,11 @@ use Rattle.plan_verifier.specs.Accepted.{IsAcceptable}
 use Rattle.cell_drive.specs.Recovered.{IsRecoverable}
 use Rattle.run_journal.specs.declared.log_run.LogRun.{LogRun}
 use Rattle.run_journal.specs.Folders.{NamedLog, held}
-use Rattle.run_journal.specs.LogRuns.{IsRunOf}
+use Rattle.run_journal.specs.LogRuns.{IsLogRunOf}
 use Rattle.run_journal.specs.TornEnds.{is_torn}
 use Rattle.run_journal.specs.WholeLines.{torn_end, whole_lines}
 use Rattle.command_words.specs.declared.words.CommandName.TheVariants.{Drive}
-use Rattle.command_words.specs.Choice.{word_of, word_found, rows_found, start_in, reasons_in, found_in}
+use Rattle.command_words.specs.Choice.{command_word_of, word_found, rows_found, start_chosen, reasons_in, found_in}
 use Rattle.command_answers.specs.declared.command_fault.CommandFault.{CommandFault}
 use Rattle.command_answers.specs.Commands.{InputPaths}
 use Rattle.command_run.specs.Logs.{bytes_in, digits_in, fault_of}
@@ -24,12 +24,12 @@ use Rattle.program_laws.specs.ResumeLaw.{GoesToLog, moment_given}
 -- the words ask for `drive` with these files, and with this log of its own
 pub record AskForLoggedDrive (words : List (List ℕ)) (inputs : InputPaths) (log : List ℕ) : Type 0 where
   pub accepted : reasons_in words ≡ []
-  pub drive : word_found (found_in words) ≡ word_of Drive
+  pub drive : word_found (found_in words) ≡ command_word_of Drive
   pub files : AskForLog words inputs log
 
 -- a log with these bytes, if it is there, has begun or not as the words ask, and by this plan where they ask for that
 abbrev pub IsAsAsked : List (List ℕ) → PlannedShop → Option (List ℕ) → Type 0
-IsAsAsked words p there = (run : LogRun) (misfit : Misfit) → IsRunOf (lines_of (whole_lines (bytes_in there))) run → IsMisfit (start_in (rows_found (found_in words))) run (digits_in p) misfit → ⊥
+IsAsAsked words p there = (run : LogRun) (misfit : Misfit) → IsLogRunOf (lines_of (whole_lines (bytes_in there))) run → IsMisfit (start_chosen (rows_found (found_in words))) run (digits_in p) misfit → ⊥
 
 -- a cell can be driven by the plan with such a log: without bytes by an accepted plan, with bytes where the run in them is recovered
 abbrev pub CanBeDriven : PlannedShop → Option ℕ → Option (List ℕ) → Type 0

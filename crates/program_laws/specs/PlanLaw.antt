@@ -9,7 +9,7 @@ use Rattle.run_journal.specs.Logged.{Held}
 use Rattle.run_journal.specs.LogRuns.{NameLast}
 use Rattle.run_journal.specs.WholeLines.{whole_lines}
 use Rattle.command_words.specs.declared.words.log_start.LogStart.TheVariants.{HandOver}
-use Rattle.command_words.specs.Choice.{kept_in, start_in, rows_found, found_in}
+use Rattle.command_words.specs.Choice.{kept_in, start_chosen, rows_found, found_in}
 use Rattle.command_answers.specs.declared.command_fault.CommandFault.{CommandFault}
 use Rattle.command_run.specs.Streams.{Devices}
 use Rattle.command_run.specs.Logs.{Driven, digits_in}
@@ -19,4 +19,4 @@ use Rattle.command_run.specs.Program.{RunsProgram}
 abbrev pub NoPlanWithOtherDigitsDrives : {W : Type 0} → (W → List ℕ → Result (List ℕ) CommandFault → W → Type 0) → Type 0
 NoPlanWithOtherDigitsDrives {W} gives = (words : List (List ℕ)) (before after : Devices W) (status : ℕ) (logs : List NamedLog) (path bytes : List ℕ) (digits : RunDigits) (p : PlannedShop) (events : List Entry) (run : Held)
     → before.folder.logs ≡ Some logs → kept_in (rows_found (found_in words)) ≡ Some path → held logs path ≡ Some bytes → NameLast (lines_of (whole_lines bytes)) digits
-    → (start_in (rows_found (found_in words)) ≡ HandOver → ⊥) → (digits_in p ≡ digits → ⊥) → RunsProgram gives words before status after (Some (Driven p events run)) → ⊥
+    → (start_chosen (rows_found (found_in words)) ≡ HandOver → ⊥) → (digits_in p ≡ digits → ⊥) → RunsProgram gives words before status after (Some (Driven p events run)) → ⊥

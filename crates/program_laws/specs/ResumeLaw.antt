@@ -7,16 +7,16 @@ use Rattle.plan_verifier.specs.Accepted.{IsAcceptable}
 use Rattle.event_lines.specs.LogLines.{LinesParse}
 use Rattle.cell_drive.specs.Recovered.{IsRecoverable}
 use Rattle.command_words.specs.declared.words.CommandName.TheVariants.{Resume}
-use Rattle.command_words.specs.Choice.{word_of, word_found, rows_found, files_in, instance_in, at_in, lines_in, leap_in, reasons_in, found_in}
+use Rattle.command_words.specs.Choice.{command_word_of, word_found, rows_found, files_in, instance_in, at_in, lines_in, leap_in, reasons_in, found_in}
 use Rattle.command_answers.specs.declared.command_fault.CommandFault.{CommandFault}
 use Rattle.command_answers.specs.Commands.{InputPaths}
-use Rattle.command_run.specs.Program.{IsShown}
+use Rattle.command_run.specs.Program.{IsOutputLog}
 use Rattle.command_run.specs.Laws.{ParseAsPlan, AskForDrive, RunsWell}
 
 -- the words ask for `resume` with these files and this log
 pub record AskForResume (words : List (List ℕ)) (inputs : InputPaths) (log : List ℕ) : Type 0 where
   pub accepted : reasons_in words ≡ []
-  pub resume : word_found (found_in words) ≡ word_of Resume
+  pub resume : word_found (found_in words) ≡ command_word_of Resume
   pub path : inputs.path ≡ get_or (files_in (rows_found (found_in words))) 0 []
   pub name : inputs.name ≡ instance_in (rows_found (found_in words))
   pub plan : inputs.plan ≡ get_or (files_in (rows_found (found_in words))) 1 []
@@ -28,7 +28,7 @@ moment_given words = at_in (rows_found (found_in words))
 
 -- the output of a run goes to this log: the run ends with 5, and nothing is written
 pub record GoesToLog (content : List ℕ → Result (List ℕ) CommandFault) (words : List (List ℕ)) (input : List ℕ) (status : ℕ) (written : List ℕ) (well : RunsWell content words input status written) (log : List ℕ) : Type 0 where
-  pub shown : IsShown (Some log) well.before.folder true
+  pub shown : IsOutputLog (Some log) well.before.folder true
   pub status_is : status ≡ 5
   pub nothing : written ≡ []
 

@@ -7,7 +7,7 @@ use Rattle.std.proofs.lemmas.List.FromFn.{map-range_with_len_more}
 use Rattle.cell_tables.specs.declared.entry.Entry.{Entry}
 use Rattle.people_names.specs.NameBooks.{NameBook}
 use Rattle.run_gantt.specs.declared.visits.LoggedVisit.{LoggedVisit}
-use Rattle.run_gantt.specs.Visits.{last_of, machine_visits}
+use Rattle.run_gantt.specs.Visits.{last_entry_moment, machine_visits}
 use Rattle.run_gantt.specs.GanttText.{scale_for, columns_for, visit_lines, machine_lines, row_lines, gantt_text}
 use Rattle.run_gantt.proofs.MachineVisits.{machine_visits-at}
 
@@ -42,10 +42,10 @@ rows-drawn names n scale columns entries rows is = same_lines (row_lines names s
 
 -- the scale and the lines of the rows are written one after another
 pub text-drawn : (names : NameBook) (n count last scale columns : ℕ) (entries : List Entry) (rows : List (List LoggedVisit)) (none one two three four : List ℕ)
-    → count ≡ n → last ≡ last_of entries → scale ≡ scale_for last → columns ≡ columns_for last scale → rows ≡ machine_visits n entries
+    → count ≡ n → last ≡ last_entry_moment entries → scale ≡ scale_for last → columns ≡ columns_for last scale → rows ≡ machine_visits n entries
     → none ≡ [] → one ≡ none ++ codes "scale " → two ≡ one ++ decimal scale → three ≡ two ++ codes "\n"
     → four ≡ three ++ flat_map (row_lines names scale columns rows) (range_with_len 0 count) → four ≡ gantt_text names n entries
 text-drawn names n count last scale columns entries rows none one two three four is_count is_last is_scale is_columns is_rows is_none is_one is_two is_three is_four =
-    let long : ℕ = scale_for (last_of entries) in
+    let long : ℕ = scale_for (last_entry_moment entries) in
     rw (is_four, is_three, is_two, is_one, is_none, is_columns, is_scale, is_last, is_count)
-    (ap (λ (l : List ℕ). codes "scale " ++ decimal long ++ codes "\n" ++ l) (rows-drawn names n long (columns_for (last_of entries) long) entries rows is_rows))
+    (ap (λ (l : List ℕ). codes "scale " ++ decimal long ++ codes "\n" ++ l) (rows-drawn names n long (columns_for (last_entry_moment entries) long) entries rows is_rows))

@@ -8,7 +8,7 @@ use Rattle.shop_base.specs.declared.move_order.MoveOrder.{MoveOrder}
 use Rattle.cell_tables.specs.declared.entry.Entry.{Entry}
 use Rattle.cell_tables.specs.declared.entry.Entry.TheVariants.{Order as OrderEntry}
 use Rattle.run_gantt.specs.declared.visits.LoggedVisit.{LoggedVisit}
-use Rattle.run_gantt.specs.Visits.{visit_of, visits_to, machine_visits}
+use Rattle.run_gantt.specs.Visits.{logged_visit_of, visits_to, machine_visits}
 
 pub machine_visits-count : (n : ℕ) (entries : List Entry) → length (machine_visits n entries) ≡ n
 machine_visits-count n entries = length-map-range_with_len (λ m. visits_to m entries) 0 n
@@ -19,7 +19,7 @@ machine_visits-at n m entries inside = get_or-map-range_with_len (λ m. visits_t
 visits-elsewhere : (order : MoveOrder) (later : List Entry) (m i : ℕ) → order.target ≡ At m → (m ≡ i → ⊥) → visits_to i (OrderEntry order ∷ later) ≡ visits_to i later
 visits-elsewhere order later m i to other = rw (to, ne_eqb m i other) refl
 
-visits-here : (order : MoveOrder) (later : List Entry) (m : ℕ) → order.target ≡ At m → visits_to m (OrderEntry order ∷ later) ≡ visit_of order m later ∷ visits_to m later
+visits-here : (order : MoveOrder) (later : List Entry) (m : ℕ) → order.target ≡ At m → visits_to m (OrderEntry order ∷ later) ≡ logged_visit_of order m later ∷ visits_to m later
 visits-here order later m to = rw (to, eq-eqb m m refl) refl
 
 -- a move to a machine that isn't among them
@@ -35,26 +35,26 @@ machine_visits-passed n order later m to past =
 -- the visit that a move begins is put before the others to its machine
 module _ (n : ℕ) (order : MoveOrder) (later : List Entry) (m : ℕ) (to : order.target ≡ At m) (inside : m < n) where
   abbrev noted : List (List LoggedVisit)
-  noted = set (machine_visits n later) m (visit_of order m later ∷ get_or (machine_visits n later) m [])
+  noted = set (machine_visits n later) m (logged_visit_of order m later ∷ get_or (machine_visits n later) m [])
 
   noted-here : get_or (machine_visits n (OrderEntry order ∷ later)) m [] ≡ get_or noted m []
   noted-here =
       machine_visits-at n m (OrderEntry order ∷ later) inside
       ∙ visits-here order later m to
-      ∙ ap (λ (l : List LoggedVisit). visit_of order m later ∷ l) (sym (machine_visits-at n m later inside))
-      ∙ sym (get_or-set_same (machine_visits n later) m (visit_of order m later ∷ get_or (machine_visits n later) m []) [] (omega (arith, inside, machine_visits-count n later)))
+      ∙ ap (λ (l : List LoggedVisit). logged_visit_of order m later ∷ l) (sym (machine_visits-at n m later inside))
+      ∙ sym (get_or-set_same (machine_visits n later) m (logged_visit_of order m later ∷ get_or (machine_visits n later) m []) [] (omega (arith, inside, machine_visits-count n later)))
 
   noted-other : (i : ℕ) → i < n → (i ≡ m → ⊥) → get_or (machine_visits n (OrderEntry order ∷ later)) i [] ≡ get_or noted i []
   noted-other i within other =
       machine_visits-at n i (OrderEntry order ∷ later) within
       ∙ visits-elsewhere order later m i to (λ same. other (sym same))
       ∙ sym (machine_visits-at n i later within)
-      ∙ sym (get_or-set_other (machine_visits n later) m i (visit_of order m later ∷ get_or (machine_visits n later) m []) [] other)
+      ∙ sym (get_or-set_other (machine_visits n later) m i (logged_visit_of order m later ∷ get_or (machine_visits n later) m []) [] other)
 
   pub machine_visits-noted : machine_visits n (OrderEntry order ∷ later) ≡ noted
   machine_visits-noted =
       ext_get_or [] (machine_visits n (OrderEntry order ∷ later)) noted
-      (machine_visits-count n (OrderEntry order ∷ later) ∙ sym (length-set (machine_visits n later) m (visit_of order m later ∷ get_or (machine_visits n later) m []) ∙ machine_visits-count n later))
+      (machine_visits-count n (OrderEntry order ∷ later) ∙ sym (length-set (machine_visits n later) m (logged_visit_of order m later ∷ get_or (machine_visits n later) m []) ∙ machine_visits-count n later))
       λ i among. go i (omega (arith, among, machine_visits-count n (OrderEntry order ∷ later))) (cases_eq i m)
     where
       go : (i : ℕ) → i < n → (i ≡ m) ⊎ (i ≡ m → ⊥) → get_or (machine_visits n (OrderEntry order ∷ later)) i [] ≡ get_or noted i []

@@ -7,7 +7,7 @@ use Rattle.run_gantt.specs.declared.visits.LoggedVisit.{LoggedVisit}
 use Rattle.run_gantt.specs.declared.visits.LinkedVisit.{LinkedVisit}
 use Rattle.std.specs.Option.{option_or}
 use Rattle.run_gantt.specs.Visits.{first_of}
-use Rattle.run_gantt.specs.GanttText.{sign_of, visit_word}
+use Rattle.run_gantt.specs.GanttText.{sign_of, gantt_visit_word}
 use Rattle.run_gantt.specs.LinkedVisits.{no_visit, IsBelow, AreLinked}
 use Rattle.run_gantt.proofs.Bars.{option_or-none, option_or-assoc}
 
@@ -20,7 +20,7 @@ above (Some place) = place + 1
 pub record AreLeft (names : NameBook) (table : List LinkedVisit) (next : Option ℕ) (visits : List LoggedVisit) (start now : List ℕ) (before after : List (Option ℕ)) (scale : ℕ) : Type 0 where
   pub rest : List LoggedVisit
   pub chain : AreLinked table next rest
-  pub text : now ++ flat_map (visit_word names) rest ≡ start ++ flat_map (visit_word names) visits
+  pub text : now ++ flat_map (gantt_visit_word names) rest ≡ start ++ flat_map (gantt_visit_word names) visits
   pub bar : (c : ℕ) → c < 60 → option_or (get_or after c None) (first_of (sign_of (c * scale)) rest) ≡ option_or (get_or before c None) (first_of (sign_of (c * scale)) visits)
 
 -- a chain that goes on with this visit
@@ -60,7 +60,7 @@ module _ (names : NameBook) (table : List LinkedVisit) (next : Option ℕ) (visi
 
   -- the next visit is shown
   pub left-fewer : (new : List ℕ) (shown : List (Option ℕ)) (place : ℕ) (linked : LinkedVisit) → next ≡ Some place → linked ≡ get_or table place no_visit
-      → new ≡ now ++ visit_word names linked.visit
+      → new ≡ now ++ gantt_visit_word names linked.visit
       → ((c : ℕ) → c < 60 → get_or shown c None ≡ option_or (get_or after c None) (sign_of (c * scale) linked.visit))
       → AreLeft names table linked.next visits start new before shown scale
   left-fewer new shown place linked at is pushed is_shown =
@@ -70,10 +70,10 @@ module _ (names : NameBook) (table : List LinkedVisit) (next : Option ℕ) (visi
         rest = on.rest;
         chain = on.chain;
         text =
-            ap (λ (l : List ℕ). l ++ flat_map (visit_word names) on.rest) pushed
-            ∙ append_assoc now (visit_word names visit) (flat_map (visit_word names) on.rest)
-            ∙ ap (λ (l : List ℕ). now ++ l) (sym (flat_map-cons (visit_word names) visit on.rest))
-            ∙ ap (λ (l : List LoggedVisit). now ++ flat_map (visit_word names) l) (sym on.whole)
+            ap (λ (l : List ℕ). l ++ flat_map (gantt_visit_word names) on.rest) pushed
+            ∙ append_assoc now (gantt_visit_word names visit) (flat_map (gantt_visit_word names) on.rest)
+            ∙ ap (λ (l : List ℕ). now ++ l) (sym (flat_map-cons (gantt_visit_word names) visit on.rest))
+            ∙ ap (λ (l : List LoggedVisit). now ++ flat_map (gantt_visit_word names) l) (sym on.whole)
             ∙ left.text;
         bar = λ c inside.
             ap (λ (x : Option ℕ). option_or x (first_of (sign_of (c * scale)) on.rest)) (is_shown c inside)
@@ -88,8 +88,8 @@ none_left table next (visit ∷ visits) at (place, first, within, here, below, c
 
 module _ (names : NameBook) (table : List LinkedVisit) (next : Option ℕ) (visits : List LoggedVisit) (start now : List ℕ) (before after : List (Option ℕ)) (scale : ℕ) (left : AreLeft names table next visits start now before after scale) (at : next ≡ None) where
   -- at the end all words are there
-  pub all_words : now ≡ start ++ flat_map (visit_word names) visits
-  all_words = sym (append-nil now) ∙ ap (λ (l : List LoggedVisit). now ++ flat_map (visit_word names) l) (sym (none_left table next left.rest at left.chain)) ∙ left.text
+  pub all_words : now ≡ start ++ flat_map (gantt_visit_word names) visits
+  all_words = sym (append-nil now) ∙ ap (λ (l : List LoggedVisit). now ++ flat_map (gantt_visit_word names) l) (sym (none_left table next left.rest at left.chain)) ∙ left.text
 
   -- and all visits are in the bar
   pub all_signs : (c : ℕ) → c < 60 → get_or after c None ≡ option_or (get_or before c None) (first_of (sign_of (c * scale)) visits)

@@ -25,24 +25,24 @@ cleaned_at None = NotYet
 cleaned_at (Some end) = By end
 
 -- what is recorded of a cleaning of machine m, by the moment of its report
-abbrev pub cleaned_by : PlannedShop → ℕ → Option ℕ → Cleaned
-cleaned_by p m end = if clean p m == 0 then Never else cleaned_at end
+abbrev pub recorded_cleaning : PlannedShop → ℕ → Option ℕ → Cleaned
+recorded_cleaning p m end = if clean p m == 0 then Never else cleaned_at end
 
 -- a visit to machine m that an order begins; what becomes of it is recorded by the later entries
-abbrev pub drawn_visit : PlannedShop → MoveOrder → ℕ → List Entry → DrawnVisit
-drawn_visit p order m later = record {
+abbrev pub drawn_logged_visit : PlannedShop → MoveOrder → ℕ → List Entry → DrawnVisit
+drawn_logged_visit p order m later = record {
   job = order.job;
   machine = m;
   enter = order.at;
   finish = first_of (finish_in order.job m) later;
   leave = first_of (leave_in order.job m) later;
-  cleaned = cleaned_by p m (first_of (cleaning_in m) later);
+  cleaned = recorded_cleaning p m (first_of (cleaning_in m) later);
 }
 
 -- the visit that a move to a spot begins: to a machine of the shop
 abbrev pub begun_at : PlannedShop → MoveOrder → Spot → List Entry → Option DrawnVisit
 begun_at p order Out later = None
-begun_at p order (At m) later = if nat_lt m (machines p) then Some (drawn_visit p order m later) else None
+begun_at p order (At m) later = if nat_lt m (machines p) then Some (drawn_logged_visit p order m later) else None
 
 -- the visit that an entry begins, if it begins one
 abbrev pub begun_visit : PlannedShop → Entry → List Entry → Option DrawnVisit

@@ -6,7 +6,7 @@ use Rattle.people_names.specs.NameBooks.{NameBook}
 use Rattle.people_names.specs.Words.{job_word, machine_word, moment_word}
 use Rattle.run_gantt.specs.declared.bar.TheConstants.{MAX_COLUMNS}
 use Rattle.run_gantt.specs.declared.visits.LoggedVisit.{LoggedVisit}
-use Rattle.run_gantt.specs.Visits.{first_of, last_of, visits_to}
+use Rattle.run_gantt.specs.Visits.{first_of, last_entry_moment, visits_to}
 
 -- how long a column of a bar is, so that at most MAX_COLUMNS columns reach to the last moment
 abbrev pub scale_for : ℕ → ℕ
@@ -48,13 +48,13 @@ module _ (names : NameBook) where
   moment_or_unknown (Some moment) = moment_word names moment
 
   -- ` JOB:ENTER-FINISH-LEAVE`
-  abbrev pub visit_word : LoggedVisit → List ℕ
-  visit_word visit = codes " " ++ job_word names visit.job ++ codes ":" ++ moment_word names visit.enter ++ codes "-" ++ moment_or_unknown visit.finish ++ codes "-" ++ moment_or_unknown visit.leave
+  abbrev pub gantt_visit_word : LoggedVisit → List ℕ
+  gantt_visit_word visit = codes " " ++ job_word names visit.job ++ codes ":" ++ moment_word names visit.enter ++ codes "-" ++ moment_or_unknown visit.finish ++ codes "-" ++ moment_or_unknown visit.leave
 
   -- the two lines of machine m: its visits, and its bar
   abbrev pub visit_lines : ℕ → ℕ → ℕ → List LoggedVisit → List ℕ
   visit_lines scale columns m visits =
-      codes "machine " ++ machine_word names m ++ flat_map visit_word visits ++ codes "\nbar " ++ bar_of scale columns visits ++ codes "\n"
+      codes "machine " ++ machine_word names m ++ flat_map gantt_visit_word visits ++ codes "\nbar " ++ bar_of scale columns visits ++ codes "\n"
 
   -- those of the visits that the entries record
   abbrev pub machine_lines : ℕ → ℕ → List Entry → ℕ → List ℕ
@@ -67,6 +67,6 @@ module _ (names : NameBook) where
   -- the Gantt text of entries, for so many machines
   abbrev pub gantt_text : ℕ → List Entry → List ℕ
   gantt_text machines entries =
-      let last = last_of entries in
+      let last = last_entry_moment entries in
       let scale = scale_for last in
       codes "scale " ++ decimal scale ++ codes "\n" ++ flat_map (machine_lines scale (columns_for last scale) entries) (range_with_len 0 machines)

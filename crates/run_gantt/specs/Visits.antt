@@ -23,9 +23,9 @@ entry_moment (ReportEntry report) = at report
 entry_moment (OrderEntry order) = order.at
 
 -- the greatest moment of an entry, 0 where there is none
-abbrev pub last_of : List Entry → ℕ
-last_of [] = 0
-last_of (entry ∷ entries) = max (entry_moment entry) (last_of entries)
+abbrev pub last_entry_moment : List Entry → ℕ
+last_entry_moment [] = 0
+last_entry_moment (entry ∷ entries) = max (entry_moment entry) (last_entry_moment entries)
 
 -- whether the spot is machine m
 abbrev pub is_at : ℕ → Spot → Bool
@@ -49,8 +49,8 @@ abbrev pub visit_end : ℕ → ℕ → List Entry → VisitEnd
 visit_end j m entries = record { finish = first_of (finish_in j m) entries; leave = first_of (leave_in j m) entries }
 
 -- a visit to machine m that an order begins; what becomes of it is recorded by the later entries
-abbrev pub visit_of : MoveOrder → ℕ → List Entry → LoggedVisit
-visit_of order m later = record {
+abbrev pub logged_visit_of : MoveOrder → ℕ → List Entry → LoggedVisit
+logged_visit_of order m later = record {
   job = order.job;
   enter = order.at;
   finish = first_of (finish_in order.job m) later;
@@ -61,7 +61,7 @@ visit_of order m later = record {
 abbrev pub visits_to : ℕ → List Entry → List LoggedVisit
 visits_to m [] = []
 visits_to m (ReportEntry report ∷ later) = visits_to m later
-visits_to m (OrderEntry order ∷ later) = if is_at m order.target then visit_of order m later ∷ visits_to m later else visits_to m later
+visits_to m (OrderEntry order ∷ later) = if is_at m order.target then logged_visit_of order m later ∷ visits_to m later else visits_to m later
 
 -- those to each of so many machines
 abbrev pub machine_visits : ℕ → List Entry → List (List LoggedVisit)

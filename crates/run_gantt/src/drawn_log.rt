@@ -3,7 +3,7 @@
 
 ghost use Rattle.std.specs.Prelude.{◌≡◌, ◌<◌, ◌++◌, IfOk, OnOk};
 ghost use Rattle.shop_base.specs.Plan.{jobs, machines};
-ghost use Rattle.run_gantt.specs.DrawnVisits.{begun_visit, cleaned_by, drawn_visits, if_any};
+ghost use Rattle.run_gantt.specs.DrawnVisits.{begun_visit, recorded_cleaning, drawn_visits, if_any};
 ghost use Rattle.run_gantt.specs.{VisitEnds.AreVisitEnds, FirstMoments.AreCleaningEnds, LeavingsSoFar.leavings_so_far};
 
 use crate::first_moments::{no_moments, note_cleaning_end, note_leaving};
@@ -76,7 +76,7 @@ fn begun_visit(
 /// What is known of a cleaning of the machine, by the moment of its report.
 fn cleaned_by(shaped: &Shaped, machine: MachineNo, end: Option<Moment>) -> Cleaned
     requires { machine < machines shaped.now }
-    ensures { result ≡ cleaned_by shaped.now machine end }
+    ensures { result ≡ recorded_cleaning shaped.now machine end }
 {
     if shaped.clean_of(machine) == 0 {
         return Cleaned::Never;

@@ -3,8 +3,8 @@
 ghost use Rattle.std.specs.Prelude.{◌≡◌, ℕ, ◌<◌, ◌≤◌, length, map, flat_map, slice_index_or, None};
 ghost use Rattle.std.specs.Prelude.{Some, decimal, string_bytes, IfOk, OnOk};
 ghost use Rattle.shop_base.specs.Plan.{machines};
-ghost use Rattle.run_gantt.specs.Visits.{first_of, last_of, entry_moment};
-ghost use Rattle.run_gantt.specs.GanttText.{gantt_text, scale_for, columns_for, row_lines, visit_word};
+ghost use Rattle.run_gantt.specs.Visits.{first_of, last_entry_moment, entry_moment};
+ghost use Rattle.run_gantt.specs.GanttText.{gantt_text, scale_for, columns_for, row_lines, gantt_visit_word};
 ghost use Rattle.run_gantt.specs.GanttText.{moment_or_unknown, sign_of, column_sign};
 ghost use Rattle.people_names.specs.{NameBooks.no_names, Words.job_word, Words.machine_word, Words.moment_word};
 ghost use Rattle.run_gantt.specs.Pushing.{IsPushed, all_lines, visits_to, SignsToo};
@@ -74,7 +74,7 @@ fn columns_for(last: Moment, scale: Moment) -> usize
 }
 
 fn last_moment(entries: &[Entry]) -> Moment
-    ensures { result ≡ last_of entries.now }
+    ensures { result ≡ last_entry_moment entries.now }
 {
     let mut last = 0;
     for entry in entries {
@@ -151,7 +151,7 @@ impl Visits {
         requires above { 0 < scale }
         requires below { scale ≤ MAX_SCALE }
         ensures text { OnOk result
-            (IsPushed text.old text.new (flat_map (visit_word names.now) (visits_to self.now machine))) }
+            (IsPushed text.old text.new (flat_map (gantt_visit_word names.now) (visits_to self.now machine))) }
         ensures bar { OnOk result
             (SignsToo scale (λ t. first_of (sign_of t) (visits_to self.now machine)) bar.old bar.new) }
     {
@@ -167,7 +167,7 @@ impl Visits {
 }
 
 fn push_visit(text: &mut String, names: &Names, visit: LoggedVisit) -> Result<(), AllocError>
-    ensures { OnOk result (IsPushed text.old text.new (visit_word names.now visit)) }
+    ensures { OnOk result (IsPushed text.old text.new (gantt_visit_word names.now visit)) }
 {
     text.push_str(" ")?;
     push_job_word(text, names, visit.job)?;

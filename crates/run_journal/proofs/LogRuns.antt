@@ -4,7 +4,7 @@ use Rattle.std.proofs.{Common.{sym, ap, ◌∙◌}, lemmas.List.append_cancel_le
 use Rattle.event_lines.specs.{declared.run_digits.RunDigits.RunDigits, RunDigits.IsPlanLine}
 use Rattle.event_lines.proofs.PlanLines.{plan_part, shop_part}
 use Rattle.run_journal.specs.declared.log_run.LogRun.{LogRun, TheVariants.{Unbegun, Unnamed, Named}}
-use Rattle.run_journal.specs.LogRuns.{HasBegun, IsRunOf, NameLast, NameNone}
+use Rattle.run_journal.specs.LogRuns.{HasBegun, IsLogRunOf, NameLast, NameNone}
 
 -- the last line of a plan among lines has these digits; or there is none, and this was the last one before them
 abbrev pub IsLast : Option RunDigits → List (List ℕ) → Option RunDigits → Type 0
@@ -54,13 +54,13 @@ one_last (line ∷ lines) one other (inr is) (inl also) = absurd (not_both lines
 one_last (line ∷ lines) one other (inr is) (inr also) = one_last lines one other is also
 
 -- what is read of a run says where these digits aren't in its last line of a plan
-pub unnamed_last : (lines : List (List ℕ)) (run : LogRun) (digits : RunDigits) → IsRunOf lines run → (run ≡ Named digits → ⊥) → NameLast lines digits → ⊥
+pub unnamed_last : (lines : List (List ℕ)) (run : LogRun) (digits : RunDigits) → IsLogRunOf lines run → (run ≡ Named digits → ⊥) → NameLast lines digits → ⊥
 unnamed_last lines Unbegun digits is other last = is (named_begun lines digits last)
 unnamed_last lines Unnamed digits is other last = not_both lines digits last is.1
 unnamed_last lines (Named own) digits is other last = other (ap Named (one_last lines own digits is last))
 
 -- it is the run that is read
-pub last_run : (lines : List (List ℕ)) (run : LogRun) (digits : RunDigits) → IsRunOf lines run → NameLast lines digits → run ≡ Named digits
+pub last_run : (lines : List (List ℕ)) (run : LogRun) (digits : RunDigits) → IsLogRunOf lines run → NameLast lines digits → run ≡ Named digits
 last_run lines Unbegun digits is last = absurd (is (named_begun lines digits last))
 last_run lines Unnamed digits is last = absurd (not_both lines digits last is.1)
 last_run lines (Named own) digits is last = ap Named (one_last lines own digits is last)

@@ -15,7 +15,7 @@ use Rattle.event_lines.specs.{EventLines.{spot_word, logged_words, order_words, 
 use Rattle.event_lines.specs.{StandingLines.late_overdue_words, RunDigits.{AreDigits, is_small_hex, plan_words}}
 use Rattle.event_lines.proofs.WrittenWords.{before-append}
 use Rattle.run_journal.specs.{declared.torn_end.TheConstants.MOMENT_DIGITS, LogFiles.zeros}
-use Rattle.run_journal.specs.TornEnds.{begins_late, begins_late_step, begins_plan, without_zeros, begins_line, is_torn, digits_of, stands_for, goes_on, IsNarrow, AreNarrow, begins_report, begins_order, UnwrittenLinesAreTorn}
+use Rattle.run_journal.specs.TornEnds.{begins_late, begins_late_step, begins_plan, without_zeros, begins_line, is_torn, most_digits, stands_for, goes_on, IsNarrow, AreNarrow, begins_report, begins_order, UnwrittenLinesAreTorn}
 use Rattle.run_journal.proofs.Starts.{any-kept}
 
 -- ---- the first bytes of bytes
@@ -64,13 +64,13 @@ shorter more [] (byte ∷ front) rest is = elim (cases_Bool (nat_lt 0 more && is
 ]
 shorter more (c ∷ form) (byte ∷ front) rest is = elim (cases_Bool (nat_lt 0 more && is_digit byte)) [
   | inl digit ↦ rw digit (shorter (more - 1) (c ∷ form) front rest
-      (subst (λ (t : Bool). (if t then goes_on (more - 1) (c ∷ form) (front ++ rest) else (if stands_for c byte then goes_on (digits_of c - 1) form (front ++ rest) else false)) ≡ true) digit is))
+      (subst (λ (t : Bool). (if t then goes_on (more - 1) (c ∷ form) (front ++ rest) else (if stands_for c byte then goes_on (most_digits c - 1) form (front ++ rest) else false)) ≡ true) digit is))
   | inr other ↦
-      let wanted : (if stands_for c byte then goes_on (digits_of c - 1) form (front ++ rest) else false) ≡ true =
-      subst (λ (t : Bool). (if t then goes_on (more - 1) (c ∷ form) (front ++ rest) else (if stands_for c byte then goes_on (digits_of c - 1) form (front ++ rest) else false)) ≡ true) other is in
+      let wanted : (if stands_for c byte then goes_on (most_digits c - 1) form (front ++ rest) else false) ≡ true =
+      subst (λ (t : Bool). (if t then goes_on (more - 1) (c ∷ form) (front ++ rest) else (if stands_for c byte then goes_on (most_digits c - 1) form (front ++ rest) else false)) ≡ true) other is in
       rw other (elim (cases_Bool (stands_for c byte)) [
-        | inl stands ↦ rw stands (shorter (digits_of c - 1) form front rest (subst (λ (t : Bool). (if t then goes_on (digits_of c - 1) form (front ++ rest) else false) ≡ true) stands wanted))
-        | inr not ↦ absurd (cc (subst (λ (t : Bool). (if t then goes_on (digits_of c - 1) form (front ++ rest) else false) ≡ true) not wanted))
+        | inl stands ↦ rw stands (shorter (most_digits c - 1) form front rest (subst (λ (t : Bool). (if t then goes_on (most_digits c - 1) form (front ++ rest) else false) ≡ true) stands wanted))
+        | inr not ↦ absurd (cc (subst (λ (t : Bool). (if t then goes_on (most_digits c - 1) form (front ++ rest) else false) ≡ true) not wanted))
       ])
 ]
 
@@ -90,7 +90,7 @@ form_of (word ∷ next ∷ words) form = mark word ++ 32 ∷ form_of (next ∷ w
 
 -- in a form it stands for itself
 abbrev is_literal : ℕ → Bool
-is_literal c = stands_for c c && digits_of c == 0
+is_literal c = stands_for c c && most_digits c == 0
 
 abbrev is_literal_word : Word → Bool
 is_literal_word (Text text) = list_all is_literal text
@@ -101,8 +101,8 @@ literal_on : (text form rest : List ℕ) → list_all is_literal text ≡ true �
 literal_on [] form rest all is = is
 literal_on (c ∷ text) form rest all is =
     let (first, others) = and_parts (is_literal c) (list_all is_literal text) all in
-    let (stands, none) = and_parts (stands_for c c) (digits_of c == 0) first in
-    rw stands (subst (λ (n : ℕ). goes_on (n - 1) (text ++ form) (text ++ rest) ≡ true) (sym (eqb-true (digits_of c) 0 none)) (literal_on text form rest others is))
+    let (stands, none) = and_parts (stands_for c c) (most_digits c == 0) first in
+    rw stands (subst (λ (n : ℕ). goes_on (n - 1) (text ++ form) (text ++ rest) ≡ true) (sym (eqb-true (most_digits c) 0 none)) (literal_on text form rest others is))
 
 some_more : (more : ℕ) → nat_lt 0 (suc more) ≡ true
 some_more more = lt-ltb 0 (suc more) (omega arith)

@@ -32,8 +32,8 @@ is_named [] path = false
 is_named (log ∷ logs) path = if bytes_eq log.path path then log.named else is_named logs path
 
 -- a log that was just made
-abbrev pub made : List ℕ → NamedLog
-made path = record { path = path; bytes = []; named = false }
+abbrev pub made_log : List ℕ → NamedLog
+made_log path = record { path = path; bytes = []; named = false }
 
 -- these logs, once the name of the log of a path is on the disk
 abbrev pub named_in : List ℕ → List NamedLog → List NamedLog
@@ -55,7 +55,7 @@ with_fault cause folder = record folder { fault = Some cause }
 
 -- with a log of this path that was just made
 abbrev pub with_made : List ℕ → Folder → Folder
-with_made path folder = record folder { logs = option_map (λ logs. made path ∷ logs) folder.logs }
+with_made path folder = record folder { logs = option_map (λ logs. made_log path ∷ logs) folder.logs }
 
 -- with such a log, unless there was one that was opened
 abbrev pub with_log : Bool → List ℕ → Folder → Folder

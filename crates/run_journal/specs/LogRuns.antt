@@ -27,10 +27,10 @@ NameLast [] digits = ⊥
 NameLast (line ∷ lines) digits = (IsPlanLine line digits × NameNone lines) ⊎ NameLast lines digits
 
 -- what lines record of a run: that it hasn't begun, that no line says by which plan, or which does last
-abbrev pub IsRunOf : List (List ℕ) → LogRun → Type 0
-IsRunOf lines Unbegun = HasBegun lines → ⊥
-IsRunOf lines Unnamed = HasBegun lines × NameNone lines
-IsRunOf lines (Named digits) = NameLast lines digits
+abbrev pub IsLogRunOf : List (List ℕ) → LogRun → Type 0
+IsLogRunOf lines Unbegun = HasBegun lines → ⊥
+IsLogRunOf lines Unnamed = HasBegun lines × NameNone lines
+IsLogRunOf lines (Named digits) = NameLast lines digits
 
 -- whole lines, and behind them the line of a plan, unless it is their last line of a plan
 abbrev pub IsNamedFor : RunDigits → List ℕ → List ℕ → Type 0

@@ -10,7 +10,7 @@ abbrev pub IsOfLog : Option FileFault → FileFault → Type 0
 IsOfLog fault cause = ((cause ≡ Log) ⊎ IsReadFault cause) × (fault ≡ Some cause)
 
 -- it is as it was found by its path
-pub record IsFound (folder : Folder) (path : List ℕ) (seen : Option (List ℕ)) (written : Bool) : Type 0 where
+pub record IsLogFound (folder : Folder) (path : List ℕ) (seen : Option (List ℕ)) (written : Bool) : Type 0 where
   pub unwritten : written ≡ false
   pub same : IfSome folder.logs (λ logs. Some seen ≡ option_map Some (held logs path))
 
@@ -21,7 +21,7 @@ pub record IsUnmade (there : Bool) (path : List ℕ) (before after : Folder) (ca
   pub at_most : (after ≡ with_fault cause before) ⊎ (after ≡ with_fault cause (with_made path before))
 
 -- the folder says that the name of a new log couldn't be put onto the disk, and the log has no byte
-pub record LacksName (had after : Folder) (seen : Option (List ℕ)) (crash_states : List ℕ → Type 0) (fault : Option FileFault) (cause : FileFault) : Type 0 where
+pub record LacksNameOnDisk (had after : Folder) (seen : Option (List ℕ)) (crash_states : List ℕ → Type 0) (fault : Option FileFault) (cause : FileFault) : Type 0 where
   pub is : IsDiskFault cause
   pub own : after ≡ with_fault cause had
   pub unfailed : fault ≡ None
@@ -36,4 +36,4 @@ pub record LacksLine (path : List ℕ) (digits : RunDigits) (had after : Folder)
 
 -- a new log lacks its name or its line
 abbrev pub IsUnnamed : List ℕ → RunDigits → Folder → Folder → Option (List ℕ) → (List ℕ → Type 0) → Option FileFault → FileFault → Type 0
-IsUnnamed path digits had after seen crash_states fault cause = LacksName had after seen crash_states fault cause ⊎ LacksLine path digits had after crash_states fault cause
+IsUnnamed path digits had after seen crash_states fault cause = LacksNameOnDisk had after seen crash_states fault cause ⊎ LacksLine path digits had after crash_states fault cause

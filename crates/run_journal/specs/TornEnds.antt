@@ -11,22 +11,22 @@ use Rattle.run_journal.specs.declared.torn_end.TheConstants.{MOMENT_DIGITS, OTHE
 use Rattle.run_journal.specs.LogFiles.{zeros}
 
 -- how many digits a number of a line's form has at most: `#` is a moment, and `%` any other number
-abbrev pub digits_of : ℕ → ℕ
-digits_of form = if form == 35 then MOMENT_DIGITS else (if form == 37 then OTHER_DIGITS else 0)
+abbrev pub most_digits : ℕ → ℕ
+most_digits form = if form == 35 then MOMENT_DIGITS else (if form == 37 then OTHER_DIGITS else 0)
 
 -- `@` is one hexadecimal digit, and any other byte of the form stands for itself
 abbrev pub stands_for_one : ℕ → ℕ → Bool
 stands_for_one form byte = if form == 64 then is_small_hex byte else form == byte
 
 abbrev pub stands_for : ℕ → ℕ → Bool
-stands_for form byte = if digits_of form == 0 then stands_for_one form byte else is_digit byte
+stands_for form byte = if most_digits form == 0 then stands_for_one form byte else is_digit byte
 
 -- the rest of a line of this form begins with these bytes, behind a number that may have so many digits more
 abbrev pub goes_on : ℕ → List ℕ → List ℕ → Bool
 goes_on more form [] = true
 goes_on more [] (byte ∷ bytes) = if nat_lt 0 more && is_digit byte then goes_on (more - 1) [] bytes else false
 goes_on more (c ∷ form) (byte ∷ bytes) = if nat_lt 0 more && is_digit byte then goes_on (more - 1) (c ∷ form) bytes
-    else (if stands_for c byte then goes_on (digits_of c - 1) form bytes else false)
+    else (if stands_for c byte then goes_on (most_digits c - 1) form bytes else false)
 
 -- a line of this form begins with these bytes
 abbrev pub begins : List ℕ → List ℕ → Bool

@@ -3,7 +3,7 @@
 ghost use Rattle.std.specs.Prelude.{◌≡◌, ◌↔◌, IsTrue, MatchOption};
 ghost use Rattle.text_lines.specs.Lines.{lines_of};
 ghost use Rattle.run_journal.specs.declared.log_run.LogRun.{LogRun};
-ghost use Rattle.run_journal.specs.LogRuns.{HasBegun, IsOfRun, IsRunOf, NameLast, NameNone};
+ghost use Rattle.run_journal.specs.LogRuns.{HasBegun, IsOfRun, IsLogRunOf, NameLast, NameNone};
 
 use event_lines::{RunDigits, digits_of_line, entry_of};
 use text_lines::next_line;
@@ -21,7 +21,7 @@ pub enum LogRun {
 
 /// What these lines record of a run.
 pub(crate) fn run_of(lines: &[u8]) -> LogRun
-    ensures { IsRunOf (lines_of lines.now) result }
+    ensures { IsLogRunOf (lines_of lines.now) result }
 {
     match last_plan(lines) {
         Some(digits) => LogRun::Named(digits),

@@ -4,8 +4,8 @@ ghost use Rattle.std.specs.Prelude.{◌≡◌, ◌<◌, ◌≤◌, ◌↔◌, []
 ghost use Rattle.text_lines.specs.{declared.limits.TheConstants.MAX_INPUT, Lines.lines_of};
 ghost use Rattle.event_lines.specs.RunDigits.{AreDigits, plan_line};
 ghost use Rattle.run_journal.specs.{LogFiles.HasFailed, LogFiles.IsDurable, LogFiles.LeavesNoMore, TornEnds.is_torn};
-ghost use Rattle.run_journal.specs.LogRuns.{IsNamedFor, IsNamedOrNot, IsRunOf};
-ghost use Rattle.run_journal.specs.Openings.{IsFound, IsOfLog, IsUnmade, IsUnnamed};
+ghost use Rattle.run_journal.specs.LogRuns.{IsNamedFor, IsNamedOrNot, IsLogRunOf};
+ghost use Rattle.run_journal.specs.Openings.{IsLogFound, IsOfLog, IsUnmade, IsUnnamed};
 ghost use Rattle.run_journal.specs.Folders.{Folder, handed, handed_if, held, is_named, IsOpenFault, with_fault, with_log, with_name};
 ghost use Rattle.run_journal.specs.WholeLines.{whole_lines, torn_end};
 
@@ -32,14 +32,14 @@ impl Model for LogText {
     ghost use Rattle.std.specs.Prelude.{◌≡◌, ℕ, ◌≤◌, List, length, take};
     ghost use Rattle.text_lines.specs.Lines.{lines_of};
     ghost use Rattle.run_journal.specs.WholeLines.{whole_lines};
-    ghost use Rattle.run_journal.specs.LogRuns.{IsRunOf};
+    ghost use Rattle.run_journal.specs.LogRuns.{IsLogRunOf};
 
     ghost Value = { List ℕ };
 
     ghost view = { λ t. t.bytes.items };
 
     ghost invariant = { λ t. (t.whole ≤ length t.bytes.items) × (take t.whole t.bytes.items ≡ whole_lines t.bytes.items)
-        × IsRunOf (lines_of (whole_lines t.bytes.items)) t.run };
+        × IsLogRunOf (lines_of (whole_lines t.bytes.items)) t.run };
 }
 
 impl LogText {
@@ -54,7 +54,7 @@ impl LogText {
 
     /// What the whole lines record of the run.
     pub fn run(&self) -> LogRun
-        ensures { IsRunOf (lines_of (whole_lines self.now)) result }
+        ensures { IsLogRunOf (lines_of (whole_lines self.now)) result }
     {
         self.run
     }
@@ -156,7 +156,7 @@ pub fn open_log<L: Logs>(
         (IsOpenFault back.fault × (L.folder logs.new ≡ with_fault back.fault (L.folder logs.old)))
         (λ log. IsOfLog (L.Log.fault log) back.fault × (L.folder logs.new ≡ handed (L.folder logs.old)))) }
     ensures unread { IfErr result
-        (λ back. IfSome back.log (λ log. IsFound (L.folder logs.old) path.now (L.Log.seen log) (L.Log.written log))) }
+        (λ back. IfSome back.log (λ log. IsLogFound (L.folder logs.old) path.now (L.Log.seen log) (L.Log.written log))) }
 {
     match logs.open(path) {
         Ok(None) => Ok(None),

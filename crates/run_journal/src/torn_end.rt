@@ -1,7 +1,7 @@
 //! What a crash can leave after the whole lines of a log: the beginning of a line that the log gets, and zeros.
 
 ghost use Rattle.std.specs.Prelude.{◌≡◌, ◌≤◌, length, take};
-ghost use Rattle.run_journal.specs.TornEnds.{digits_of, stands_for, stands_for_one, begins, begins_report, begins_order, begins_late, begins_late_step, begins_plan, without_zeros, is_torn};
+ghost use Rattle.run_journal.specs.TornEnds.{most_digits, stands_for, stands_for_one, begins, begins_report, begins_order, begins_late, begins_late_step, begins_plan, without_zeros, is_torn};
 
 /// Whether a crash can have left these bytes after the whole lines: the beginning of some line of a report, of an
 /// order, of a late report or of a plan, or nothing, and then zeros, or none.
@@ -102,7 +102,7 @@ const OTHER_DIGITS: usize = 3;
 
 /// The most digits of the number for which this stands in a form: 0 where it stands for itself.
 fn digits_of(form: u8) -> usize
-    ensures { result ≡ digits_of form }
+    ensures { result ≡ most_digits form }
 {
     match form {
         b'#' => MOMENT_DIGITS,

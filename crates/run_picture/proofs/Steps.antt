@@ -2,7 +2,7 @@
 use Rattle.std.proofs.Common.{◌≡◌, ℕ, zero, suc, ◌+◌, ◌-◌, ◌*◌, ◌<◌, ◌≤◌, List, [], ◌∷◌, length, slice_index, Option, ◌⊎◌, inl, inr, refl, sym, ap, subst, ◌∙◌, arith}
 use Rattle.std.proofs.lemmas.Bool.{cases_eq, cases_lt}
 use Rattle.people_names.specs.declared.clock.Clock.{Clock}
-use Rattle.run_picture.specs.Axis.{round, step_in, step_at, short_steps, long_unit, begin_of, ticks_by, AreTicks}
+use Rattle.run_picture.specs.Axis.{round, step_in, axis_step_at, short_steps, long_unit, begin_of, ticks_by, AreTicks}
 use Rattle.run_picture.specs.Steps.{AreMany, AreAllMany, IsFirstShort, IsFirstLong, AreNextSteps, IsStep}
 
 pub first_steps : (begin last unit : ℕ) → 0 < unit → AreNextSteps begin last unit unit (2 * unit) (5 * unit)
@@ -59,7 +59,7 @@ module _ (clock : Option Clock) (begin last step : ℕ) where
     least = λ k below. subst (λ (n : ℕ). AreMany begin last n) (sym (at k (omega (arith, below, is.within)))) (is.least k below);
   }
     where
-      at : (k : ℕ) → k < length short → step_at clock k ≡ slice_index short k
+      at : (k : ℕ) → k < length short → axis_step_at clock k ≡ slice_index short k
       at k below = subst (λ (l : List ℕ). step_in l (long_unit clock) k ≡ slice_index short k) are (step_in-short short (long_unit clock) k below)
 
   -- where there are many ticks by each short one, the first long step is
@@ -72,13 +72,13 @@ module _ (clock : Option Clock) (begin last step : ℕ) where
     least = λ k below. go k below (cases_lt k (length short));
   }
     where
-      of : (k : ℕ) → step_at clock k ≡ step_in short unit k
+      of : (k : ℕ) → axis_step_at clock k ≡ step_in short unit k
       of k = rw (are, unit_is) refl
 
-      behind : (k j : ℕ) → j ≡ length short + k → step_at clock j ≡ unit * round k
+      behind : (k j : ℕ) → j ≡ length short + k → axis_step_at clock j ≡ unit * round k
       behind k j at = of j ∙ step_in-long short unit k j at
 
-      go : (k : ℕ) → k < length short + is.place → (k < length short) ⊎ (length short ≤ k) → AreMany begin last (step_at clock k)
+      go : (k : ℕ) → k < length short + is.place → (k < length short) ⊎ (length short ≤ k) → AreMany begin last (axis_step_at clock k)
       go k below (inl low) = subst (λ (n : ℕ). AreMany begin last n) (sym (of k ∙ step_in-short short unit k low)) (many k low)
       go k below (inr high) = subst (λ (n : ℕ). AreMany begin last n) (sym (behind (k - length short) k (omega arith))) (is.least (k - length short) (omega arith))
 

@@ -49,8 +49,8 @@ step_in (step ∷ steps) unit zero = step
 step_in (step ∷ steps) unit (suc k) = step_in steps unit k
 
 -- the steps, ascending: without a clock 1, 2, 5, 10, .. moments; by a clock those below a day, and then 1, 2, 5, 10, .. days
-abbrev pub step_at : Option Clock → ℕ → ℕ
-step_at clock k = step_in (short_steps clock) (long_unit clock) k
+abbrev pub axis_step_at : Option Clock → ℕ → ℕ
+axis_step_at clock k = step_in (short_steps clock) (long_unit clock) k
 
 -- how many moments after midnight moment 0 is
 abbrev pub begin_of : Option Clock → ℕ
@@ -73,6 +73,6 @@ ticks_of clock last step = ticks_by (begin_of clock) last step
 -- the moments that the axis names: the multiples of the least step of which there are at most ten up to the last moment
 pub record AreTicks (clock : Option Clock) (last : ℕ) (ticks : List ℕ) : Type 0 where
   pub place : ℕ
-  pub are : ticks ≡ ticks_of clock last (step_at clock place)
+  pub are : ticks ≡ ticks_of clock last (axis_step_at clock place)
   pub few : length ticks ≤ 10
-  pub least : (k : ℕ) → k < place → 10 < length (ticks_of clock last (step_at clock k))
+  pub least : (k : ℕ) → k < place → 10 < length (ticks_of clock last (axis_step_at clock k))

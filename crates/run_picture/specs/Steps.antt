@@ -2,7 +2,7 @@
 use Rattle.std.specs.Prelude.{◌≡◌, ℕ, suc, ◌+◌, ◌*◌, ◌%◌, ◌<◌, ◌≤◌, List, length, map, slice_index, Option}
 use Rattle.std.specs.List.{range_with_len}
 use Rattle.people_names.specs.declared.clock.Clock.{Clock}
-use Rattle.run_picture.specs.Axis.{round, step_at, ticks_by}
+use Rattle.run_picture.specs.Axis.{round, axis_step_at, ticks_by}
 
 -- so many moments, by a step from the first on
 abbrev pub moments_by : ℕ → ℕ → ℕ → List ℕ
@@ -54,7 +54,7 @@ pub record AreNextSteps (begin last unit step next after : ℕ) : Type 0 where
 -- the step of an axis: the first of all with few ticks
 pub record IsStep (clock : Option Clock) (begin last step : ℕ) : Type 0 where
   pub place : ℕ
-  pub is : step ≡ step_at clock place
+  pub is : step ≡ axis_step_at clock place
   pub above : 0 < step
   pub few : length (ticks_by begin last step) ≤ 10
-  pub least : (k : ℕ) → k < place → AreMany begin last (step_at clock k)
+  pub least : (k : ℕ) → k < place → AreMany begin last (axis_step_at clock k)

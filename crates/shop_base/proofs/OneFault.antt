@@ -6,11 +6,11 @@ use Rattle.shop_base.specs.declared.limits.TheConstants.{MAX_RELEASE, MAX_MOMENT
 use Rattle.shop_base.specs.declared.shop_fault.ShopFault.{ShopFault}
 use Rattle.shop_base.specs.declared.shop_fault.ShopFault.TheVariants.{NoJobs, TooManyJobs, NoMachines, TooManyMachines, EmptyRoute, TooManySteps, MachineOutOfRange, MachineTwice, NominalTooLarge}
 use Rattle.shop_base.specs.Shop.{IsRoute, IsSoundStep, route_at, step_at}
-use Rattle.shop_base.specs.ShopFault.{IsFirstFault, IsReached, IsStepReached, IsTooLong, IsTwice}
+use Rattle.shop_base.specs.ShopFault.{IsFirstFault, AreSoundBefore, IsStepReached, IsTooLong, IsTwice}
 use Rattle.shop_base.specs.declared.shape_fault.ShapeFault.{ShapeFault}
 use Rattle.shop_base.specs.declared.shape_fault.ShapeFault.TheVariants.{ReleaseCount, BudgetCount, OrderCount, CleanCount, ReleaseTooLarge, BudgetTooLarge, CleanTooLarge, JobOutOfRange, NotOnRoute, JobTwice, JobMissing}
 use Rattle.shop_base.specs.Plan.{PlannedShop, jobs, machines, release, budget, clean, order, job_at, HasCleanCount, HasCounts, IsOrder}
-use Rattle.shop_base.specs.ShapeFault.{IsVisitor, IsGoodPlace, visit_count, place_count, IsMachineReached, IsPlaceReached, AreWithin, IsFirstShapeFault}
+use Rattle.shop_base.specs.ShapeFault.{IsVisitor, IsGoodPlace, visit_count, place_count, IsMachineReached, IsPlaceReached, EachIsWithin, IsFirstShapeFault}
 use Rattle.shop_base.proofs.FirstVisits.{sound-twice}
 use Rattle.shop_base.proofs.Visits.{visits_job}
 use Rattle.shop_base.proofs.Orders.{stands-place, place-stands, none_missing}
@@ -18,7 +18,7 @@ use Rattle.shop_base.proofs.Orders.{stands-place, place-stands, none_missing}
 module _ (count : ℕ) (again : Bool) (routes : List (List Step)) where
   -- all before job j is sound, and its route isn't
   record IsBadJob (j : ℕ) : Type 0 where
-    reached : IsReached count again routes j
+    reached : AreSoundBefore count again routes j
     bad : IsRoute count again (route_at routes j) → ⊥
 
   -- all before step k of job j is sound, and that step isn't
@@ -125,7 +125,7 @@ module _ (count : ℕ) (again : Bool) (routes : List (List Step)) where
   fault_once a b one other = absurd (omega arith)
 
 -- a first number over a limit is the only one
-least_once : (f : ℕ → ℕ) (limit i j : ℕ) → AreWithin f i limit → limit < f i → AreWithin f j limit → limit < f j → i ≡ j
+least_once : (f : ℕ → ℕ) (limit i j : ℕ) → EachIsWithin f i limit → limit < f i → EachIsWithin f j limit → limit < f j → i ≡ j
 least_once f limit i j before over before' over' = go (cases_order i j)
   where
     go : (i ≡ j) ⊎ ((i < j) ⊎ (j < i)) → i ≡ j
@@ -144,9 +144,9 @@ module _ (p : PlannedShop) where
   Holds (suc zero) = length p.plan.budget ≡ jobs p
   Holds (suc (suc zero)) = length p.plan.order ≡ machines p
   Holds (suc (suc (suc zero))) = HasCleanCount p.plan.clean (machines p)
-  Holds (suc (suc (suc (suc zero)))) = AreWithin (release p) (jobs p) MAX_RELEASE
-  Holds (suc (suc (suc (suc (suc zero))))) = AreWithin (budget p) (jobs p) MAX_MOMENT
-  Holds (suc (suc (suc (suc (suc (suc zero)))))) = AreWithin (clean p) (machines p) MAX_CLEAN
+  Holds (suc (suc (suc (suc zero)))) = EachIsWithin (release p) (jobs p) MAX_RELEASE
+  Holds (suc (suc (suc (suc (suc zero))))) = EachIsWithin (budget p) (jobs p) MAX_MOMENT
+  Holds (suc (suc (suc (suc (suc (suc zero)))))) = EachIsWithin (clean p) (machines p) MAX_CLEAN
   Holds (suc (suc (suc (suc (suc (suc (suc n))))))) = Unit {0}
 
   -- the first thing that doesn't hold, 7 for the orders

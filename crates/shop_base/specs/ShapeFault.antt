@@ -45,8 +45,8 @@ pub record IsJobReached (p : PlannedShop) (m j : ℕ) : Type 0 where
   pub before : (i : ℕ) → i < j → visit_count p m i ≤ place_count p m i
 
 -- each of the first n numbers is within the limit
-abbrev pub AreWithin : (ℕ → ℕ) → ℕ → ℕ → Type 0
-AreWithin f n limit = (i : ℕ) → i < n → f i ≤ limit
+abbrev pub EachIsWithin : (ℕ → ℕ) → ℕ → ℕ → Type 0
+EachIsWithin f n limit = (i : ℕ) → i < n → f i ≤ limit
 
 -- this is what is wrong first with the shape of a plan
 abbrev pub IsFirstShapeFault : PlannedShop → ShapeFault → Type 0
@@ -60,19 +60,19 @@ IsFirstShapeFault p CleanCount =
     × (length p.plan.order ≡ machines p)
     × (HasCleanCount p.plan.clean (machines p) → ⊥)
 IsFirstShapeFault p (ReleaseTooLarge job) =
-    HasCounts p × (job < jobs p) × AreWithin (release p) job MAX_RELEASE × (MAX_RELEASE < release p job)
+    HasCounts p × (job < jobs p) × EachIsWithin (release p) job MAX_RELEASE × (MAX_RELEASE < release p job)
 IsFirstShapeFault p (BudgetTooLarge job) =
     HasCounts p
-    × AreWithin (release p) (jobs p) MAX_RELEASE
+    × EachIsWithin (release p) (jobs p) MAX_RELEASE
     × (job < jobs p)
-    × AreWithin (budget p) job MAX_MOMENT
+    × EachIsWithin (budget p) job MAX_MOMENT
     × (MAX_MOMENT < budget p job)
 IsFirstShapeFault p (CleanTooLarge machine) =
     HasCounts p
-    × AreWithin (release p) (jobs p) MAX_RELEASE
-    × AreWithin (budget p) (jobs p) MAX_MOMENT
+    × EachIsWithin (release p) (jobs p) MAX_RELEASE
+    × EachIsWithin (budget p) (jobs p) MAX_MOMENT
     × (machine < machines p)
-    × AreWithin (clean p) machine MAX_CLEAN
+    × EachIsWithin (clean p) machine MAX_CLEAN
     × (MAX_CLEAN < clean p machine)
 IsFirstShapeFault p (JobOutOfRange machine place) = IsPlaceReached p machine place × (jobs p ≤ job_at p machine place)
 IsFirstShapeFault p (NotOnRoute machine place) =

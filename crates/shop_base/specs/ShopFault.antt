@@ -15,7 +15,7 @@ abbrev pub AreRoutes : ℕ → Bool → List (List Step) → ℕ → Type 0
 AreRoutes machines again routes n = (job : ℕ) → job < n → IsRoute machines again (route_at routes job)
 
 -- the counts and all jobs before this one are sound
-pub record IsReached (machines : ℕ) (again : Bool) (routes : List (List Step)) (job : ℕ) : Type 0 where
+pub record AreSoundBefore (machines : ℕ) (again : Bool) (routes : List (List Step)) (job : ℕ) : Type 0 where
   pub in_range : job < length routes
   pub counts : AreCounts machines (length routes)
   pub before : AreRoutes machines again routes job
@@ -26,7 +26,7 @@ IsTooLong again route = (again ≡ true) × (MAX_STEPS < length route)
 
 -- so are the steps of the job before this one, whose route isn't too long
 pub record IsStepReached (machines : ℕ) (again : Bool) (routes : List (List Step)) (job step : ℕ) : Type 0 where
-  pub reached : IsReached machines again routes job
+  pub reached : AreSoundBefore machines again routes job
   pub in_range : step < length (route_at routes job)
   pub short : IsTooLong again (route_at routes job) → ⊥
   pub before : AreSoundSteps machines again (route_at routes job) step
@@ -46,8 +46,8 @@ IsFirstFault machines again routes NoJobs = length routes ≡ 0
 IsFirstFault machines again routes TooManyJobs = MAX_JOBS < length routes
 IsFirstFault machines again routes NoMachines = (0 < length routes) × (length routes ≤ MAX_JOBS) × (machines ≡ 0)
 IsFirstFault machines again routes TooManyMachines = (0 < length routes) × (length routes ≤ MAX_JOBS) × (MAX_MACHINES < machines)
-IsFirstFault machines again routes (EmptyRoute job) = IsReached machines again routes job × (length (route_at routes job) ≡ 0)
-IsFirstFault machines again routes (TooManySteps job) = IsReached machines again routes job × IsTooLong again (route_at routes job)
+IsFirstFault machines again routes (EmptyRoute job) = AreSoundBefore machines again routes job × (length (route_at routes job) ≡ 0)
+IsFirstFault machines again routes (TooManySteps job) = AreSoundBefore machines again routes job × IsTooLong again (route_at routes job)
 IsFirstFault machines again routes (MachineOutOfRange job step) =
     IsStepReached machines again routes job step × (machines ≤ (step_at (route_at routes job) step).machine)
 IsFirstFault machines again routes (MachineTwice job step) =

@@ -3,16 +3,16 @@ use Rattle.std.specs.Prelude.{ℕ, ◌<◌, List, Option, None, Some, length, sl
 use Rattle.shop_base.specs.declared.limits.TheConstants.{MAX_RELEASE, MAX_MOMENT, MAX_CLEAN}
 use Rattle.shop_base.specs.declared.shape_fault.ShapeFault.{ShapeFault}
 use Rattle.shop_base.specs.declared.shape_fault.ShapeFault.TheVariants.{ReleaseTooLarge, BudgetTooLarge, CleanTooLarge}
-use Rattle.shop_base.specs.ShapeFault.{AreWithin}
+use Rattle.shop_base.specs.ShapeFault.{EachIsWithin}
 
 -- each number of a list is within the limit
 abbrev pub AreAllWithin : List ℕ → ℕ → Type 0
-AreAllWithin numbers limit = AreWithin (slice_index numbers) (length numbers) limit
+AreAllWithin numbers limit = EachIsWithin (slice_index numbers) (length numbers) limit
 
 -- the number at this place is the first over the limit
 pub record IsFirstOver (numbers : List ℕ) (limit place : ℕ) : Type 0 where
   pub in_range : place < length numbers
-  pub before : AreWithin (slice_index numbers) place limit
+  pub before : EachIsWithin (slice_index numbers) place limit
   pub over : limit < slice_index numbers place
 
 -- so are the cleaning times, where there are some

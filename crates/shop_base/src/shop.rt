@@ -4,7 +4,7 @@ ghost use Rattle.shop_base.specs.Shop.{IsShop, IsRoute, AreCounts, IsSoundStep, 
 ghost use Rattle.shop_base.specs.Vectors.{lists_of};
 ghost use Rattle.shop_base.specs.Work.{work_of, route_work};
 ghost use Rattle.shop_base.specs.declared.shop_fault.ShopFault.{ShopFault};
-ghost use Rattle.shop_base.specs.ShopFault.{AreRoutes, IsFirstFault, IsReached, IsStepReached, IsTooLong, IsTwice};
+ghost use Rattle.shop_base.specs.ShopFault.{AreRoutes, IsFirstFault, AreSoundBefore, IsStepReached, IsTooLong, IsTwice};
 ghost use Rattle.shop_base.specs.Marks.{AreMarks, IsVisitedBefore};
 
 use crate::limits::{MAX_JOBS, MAX_MACHINES, MAX_NOMINAL, MAX_STEPS};
@@ -217,7 +217,7 @@ fn check_length(
     routes: &[Vec<Step>],
     job: usize,
 ) -> Result<(), ShopFault>
-    requires { IsReached machines recirculates (lists_of routes.now) job }
+    requires { AreSoundBefore machines recirculates (lists_of routes.now) job }
     ensures some { OnOk result (0 < length (route_at (lists_of routes.now) job)) }
     ensures short { OnOk result (IsTooLong recirculates (route_at (lists_of routes.now) job) → ⊥) }
     ensures first_fault { IfErr result (IsFirstFault machines recirculates (lists_of routes.now)) }
@@ -239,7 +239,7 @@ fn check_route(
     routes: &[Vec<Step>],
     job: usize,
 ) -> Result<(), ShopFault>
-    requires reached { IsReached machines recirculates (lists_of routes.now) job }
+    requires reached { AreSoundBefore machines recirculates (lists_of routes.now) job }
     requires some { 0 < length (route_at (lists_of routes.now) job) }
     requires short { IsTooLong recirculates (route_at (lists_of routes.now) job) → ⊥ }
     ensures sound { OnOk result (IsRoute machines recirculates (route_at (lists_of routes.now) job)) }

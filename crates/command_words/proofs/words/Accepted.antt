@@ -18,7 +18,7 @@ use Rattle.clap.specs.declared.builder.value_parser.ValueParser.TheVariants.{Sig
 use Rattle.clap.proofs.ValueTestLemmas.{accepts-Accepts}
 use Rattle.command_words.specs.CommandLine.{option_rule, command, command_line, driven_rules, hub_rules, log_command, names_rule, plan_command, rest_command, described, revising_rules, most_rounds, greatest_seed, most_choices, rounds_rule}
 use Rattle.command_words.specs.Given.{values_of}
-use Rattle.command_words.specs.Choice.{FitsBetween, Found, IsFit, TakesFiles, NamesOneOf, NamesReason, files_in, found_in, parse_reasons_in, word_of}
+use Rattle.command_words.specs.Choice.{FitsBetween, Found, IsFit, TakesFiles, NamesOneOf, NamesReason, files_in, found_in, parse_reasons_in, command_word_of}
 use Rattle.command_words.specs.declared.words.CommandName.{CommandName}
 use Rattle.command_words.specs.declared.words.CommandName.TheVariants.{Facts, Shape as ShapeName, Check, Explain, Schedule, Bounds, Margin, Plan, Improve, Decide, Revise, Drive, Resume, Hub, Digest, Audit, Gantt}
 use Rattle.command_words.specs.declared.words.WordsFault.{WordsFault}
@@ -101,7 +101,7 @@ fit_number least most (Some a) (Some r) counts fit =
 abbrev FitsLeaf : Shape → Type 0
 FitsLeaf s = (words : List Text) → level_fault s [] nothing_held words false [] ≡ [] → IsFit (Some (s.name, rows_after s.rules [] words))
 
-fits_leaf : (s : Shape) (name : CommandName) (file plan log : Share) → word_of name ≡ Some s.name → s.args_override_self ≡ false → s.subcommand_negates_reqs ≡ false
+fits_leaf : (s : Shape) (name : CommandName) (file plan log : Share) → command_word_of name ≡ Some s.name → s.args_override_self ≡ false → s.subcommand_negates_reqs ≡ false
     → PlainRules s.rules s.rules → SharedBy file (arg_by_id s.rules (codes "FILE")) → SharedBy plan (arg_by_id s.rules (codes "PLAN"))
     → SharedBy log (arg_by_id s.rules (codes "LOG")) → Goes 0 most_rounds (arg_by_id s.rules (codes "rounds"))
     → Goes 0 greatest_seed (arg_by_id s.rules (codes "seed")) → Goes 1 most_choices (arg_by_id s.rules (codes "choices"))
@@ -149,13 +149,13 @@ facts_fits = fits_leaf (as_built (command (codes "facts") [])) Facts one none no
     (set_plain _ _ refl refl refl refl, (set_plain _ _ refl refl refl refl, (help_plain _ _ refl refl refl refl, tt)))
     (_, refl, refl, refl, refl, refl) refl refl tt tt tt (λ x y z p q r. omega arith)
 
-plan_fits : (name : Text) (named : CommandName) → word_of named ≡ Some name → ((x y z : ℕ) → x ≡ 1 → y ≡ 1 → z ≡ 0 → TakesFiles named ((x + y) + z))
+plan_fits : (name : Text) (named : CommandName) → command_word_of named ≡ Some name → ((x y z : ℕ) → x ≡ 1 → y ≡ 1 → z ≡ 0 → TakesFiles named ((x + y) + z))
     → FitsLeaf (as_built (plan_command name []))
 plan_fits name named is counts = fits_leaf (as_built (plan_command name [])) named one one none is refl refl
     (set_plain _ _ refl refl refl refl, (set_plain _ _ refl refl refl refl, (set_plain _ _ refl refl refl refl, (help_plain _ _ refl refl refl refl, tt))))
     (_, refl, refl, refl, refl, refl) (_, refl, refl, refl, refl, refl) refl tt tt tt counts
 
-rest_fits : (name : Text) (named : CommandName) → word_of named ≡ Some name → ((x y z : ℕ) → x ≡ 1 → y ≡ 1 → z ≡ 0 → TakesFiles named ((x + y) + z))
+rest_fits : (name : Text) (named : CommandName) → command_word_of named ≡ Some name → ((x y z : ℕ) → x ≡ 1 → y ≡ 1 → z ≡ 0 → TakesFiles named ((x + y) + z))
     → FitsLeaf (as_built (rest_command name []))
 rest_fits name named is counts = fits_leaf (as_built (rest_command name [])) named one one none is refl refl (
   set_plain _ _ refl refl refl refl,
@@ -175,7 +175,7 @@ rest_fits name named is counts = fits_leaf (as_built (rest_command name [])) nam
 )
     (_, refl, refl, refl, refl, refl) (_, refl, refl, refl, refl, refl) refl tt tt tt counts
 
-named_fits : (name : Text) (named : CommandName) → word_of named ≡ Some name → ((x y z : ℕ) → x ≡ 1 → y ≡ 1 → z ≡ 0 → TakesFiles named ((x + y) + z))
+named_fits : (name : Text) (named : CommandName) → command_word_of named ≡ Some name → ((x y z : ℕ) → x ≡ 1 → y ≡ 1 → z ≡ 0 → TakesFiles named ((x + y) + z))
     → FitsLeaf (as_built (plan_command name (names_rule ∷ [])))
 named_fits name named is counts = fits_leaf (as_built (plan_command name (names_rule ∷ []))) named one one none is refl refl (
   set_plain _ _ refl refl refl refl,
@@ -251,7 +251,7 @@ drive_fits = fits_leaf (as_built (described Drive)) Drive one one none refl refl
 )
     (_, refl, refl, refl, refl, refl) (_, refl, refl, refl, refl, refl) refl tt tt tt (λ x y z p q r. omega arith)
 
-log_fits : (name : Text) (named : CommandName) → word_of named ≡ Some name → ((x y z : ℕ) → x ≡ 1 → y ≡ 1 → z ≡ 1 → TakesFiles named ((x + y) + z))
+log_fits : (name : Text) (named : CommandName) → command_word_of named ≡ Some name → ((x y z : ℕ) → x ≡ 1 → y ≡ 1 → z ≡ 1 → TakesFiles named ((x + y) + z))
     → FitsLeaf (as_built (log_command name []))
 log_fits name named is counts = fits_leaf (as_built (log_command name [])) named one one one is refl refl (
   set_plain _ _ refl refl refl refl,

@@ -2,7 +2,7 @@
 use Rattle.std.proofs.Common.{◌≡◌, ◌∙◌, if◌then◌else◌, ℕ, Option, None, Some, ap, codes, refl, subst, sym}
 use Rattle.std.specs.Prelude.{bytes_eq}
 use Rattle.clap.specs.Words.{Text}
-use Rattle.command_words.specs.Choice.{TakesFiles, word_of}
+use Rattle.command_words.specs.Choice.{TakesFiles, command_word_of}
 use Rattle.command_words.specs.declared.words.CommandName.{CommandName}
 use Rattle.command_words.specs.declared.words.CommandName.TheVariants.{Input, Facts, Shape, Check, Explain, Schedule, Bounds, Margin, Plan, Improve, Decide, Revise, Drive, Resume, Hub, Digest, Audit, Gantt}
 
@@ -26,7 +26,7 @@ command_of (Some word) = if bytes_eq word (codes "facts") then Facts
     else if bytes_eq word (codes "audit") then Audit
     else Gantt
 
-is_command_of : (name : CommandName) → command_of (word_of name) ≡ name
+is_command_of : (name : CommandName) → command_of (command_word_of name) ≡ name
 is_command_of Input = refl
 is_command_of Facts = refl
 is_command_of Shape = refl
@@ -47,7 +47,7 @@ is_command_of Audit = refl
 is_command_of Gantt = refl
 
 -- what one takes the other takes, where they have one word
-pub takes_same : (named name : CommandName) (word : Text) (many files : ℕ) → word_of named ≡ Some word → word_of name ≡ Some word → files ≡ many
+pub takes_same : (named name : CommandName) (word : Text) (many files : ℕ) → command_word_of named ≡ Some word → command_word_of name ≡ Some word → files ≡ many
     → TakesFiles named many → TakesFiles name files
 takes_same named name word many files is same e takes =
     subst (λ (one : CommandName). TakesFiles one files) (sym (is_command_of named) ∙ ap command_of (is ∙ sym same) ∙ is_command_of name)

@@ -12,7 +12,7 @@ use Rattle.clap.proofs.CallerReads.{signed_reads}
 use Rattle.clap.specs.Words.{ReadsOne, one_of, one_text, without_minus}
 use Rattle.clap.proofs.WalkLemmas.{one_text-rows}
 use Rattle.command_words.specs.Given.{values_of}
-use Rattle.command_words.specs.Choice.{FitsBetween, number_in}
+use Rattle.command_words.specs.Choice.{FitsBetween, number_chosen}
 
 pub text_given : (f : Found) (id bytes : Text) (o : Option (Bor Text)) (s : Bor Text) → option_map (λ t. t.now) o ≡ first_value f id → o ≡ Some s → bytes ≡ s.now
     → Some bytes ≡ first_of id (rows_of f)
@@ -52,7 +52,7 @@ pub number_read : (E : Type 0) (G : List ℕ → Result ℕ E → Type 0) (id : 
     → ((u : List ℕ) (x : Result ℕ E) → G u x → ParsesUnsigned 32 10 u x) → most < 2 ^ 32 → least ≤ other → other ≤ most
     → (one_text f id ≡ None → o ≡ None) → ((t : List ℕ) → one_text f id ≡ Some t → ReadsOne G t o)
     → FitsBetween least most (one_of id (rows_of f))
-    → (unwrap_or o other ≡ number_in id other (rows_of f)) × (least ≤ unwrap_or o other) × (unwrap_or o other ≤ most)
+    → (unwrap_or o other ≡ number_chosen id other (rows_of f)) × (least ≤ unwrap_or o other) × (unwrap_or o other ≤ most)
 number_read E G id least most other f o only narrow low high left_out read fits = go (one_of id (rows_of f)) (one_text-rows f id) fits
   where
     go : (t : Option Text) → one_text f id ≡ t → FitsBetween least most t

@@ -2,8 +2,8 @@
 
 ghost use Rattle.std.specs.Prelude.{◌≡◌, [], IfOk, IfErr};
 ghost use Rattle.clap.specs.Words.{found_of, rows_of};
-ghost use Rattle.command_words.specs.Choice.{NamesOneOf, goes_on, is_asked, is_twofold};
-ghost use Rattle.command_words.specs.Choice.{lacks_log, start_in, start_misfit};
+ghost use Rattle.command_words.specs.Choice.{NamesOneOf, continues_log, is_asked, is_twofold};
+ghost use Rattle.command_words.specs.Choice.{lacks_log, start_chosen, start_misfit};
 
 use crate::words::{WordsFault, has_log, is_set, no_both, no_log};
 use clap::ArgMatches;
@@ -24,7 +24,7 @@ pub enum LogStart {
 
 /// How the log has to begin, which goes with a log to keep.
 pub(crate) fn start_of(alloc: Global, matches: &ArgMatches<'_>) -> Result<LogStart, WordsFault>
-    ensures exact { IfOk result (λ start. start ≡ start_in (rows_of (found_of matches.now))) }
+    ensures exact { IfOk result (λ start. start ≡ start_chosen (rows_of (found_of matches.now))) }
     ensures fits { IfOk result (λ _. start_misfit (rows_of (found_of matches.now)) ≡ []) }
     ensures refused { IfErr result (NamesOneOf (start_misfit (rows_of (found_of matches.now)))) }
 {
@@ -40,7 +40,7 @@ pub(crate) fn start_of(alloc: Global, matches: &ArgMatches<'_>) -> Result<LogSta
 
 /// How the log has to begin, by the last of the switches that is set.
 fn start_read(matches: &ArgMatches<'_>) -> LogStart
-    ensures { result ≡ start_in (rows_of (found_of matches.now)) }
+    ensures { result ≡ start_chosen (rows_of (found_of matches.now)) }
 {
     if is_set(matches, "hand-over") {
         LogStart::HandOver
@@ -55,7 +55,7 @@ fn start_read(matches: &ArgMatches<'_>) -> LogStart
 
 /// Whether the log has to have begun.
 fn goes_on(start: LogStart) -> bool
-    ensures { result ≡ goes_on start }
+    ensures { result ≡ continues_log start }
 {
     match start {
         LogStart::Any | LogStart::New => false,

@@ -1,6 +1,6 @@
 use Rattle.std.proofs.Common.{◌∙◌, ◌++◌, ◌∷◌, ◌+◌, [], List, length, ap, sym, subst, arith}
 use Rattle.std.proofs.lemmas.List.{length_push}
-use Rattle.cell_control.specs.Control.{at_start}
+use Rattle.cell_control.specs.Control.{control_at_start}
 use Rattle.cell_hub.specs.declared.slots.Ticket.{Ticket}
 use Rattle.cell_drive.specs.{ManyCells.{HubCell, cell_start}, Numbers.{AreInRun, planned_cells}, Tickets.{AreSeated, cells_of}}
 use Rattle.cell_drive.proofs.{Hubs.one_more_begun, ManyCells.{one_more_verified, start_in_run}, SeatedCells.{one_more, planned_more}}
@@ -16,9 +16,9 @@ loop-plan-preserved g c =
     let seat = c.in_ok-seat.ensures.seated in
     let ticket = seat.0 in
     let admitted = seat.1 in
-    let more = one_more old new 0 ts ticket (at_start w) so_far.seated (let counted = so_far.counted in let serial = admitted.serial in omega (arith, counted, serial)) admitted.cells in
+    let more = one_more old new 0 ts ticket (control_at_start w) so_far.seated (let counted = so_far.counted in let serial = admitted.serial in omega (arith, counted, serial)) admitted.cells in
     record {
-      started = ap (cells_of new) seat.2 ∙ ap planned_cells more.contents_are ∙ planned_more _ (at_start w)
+      started = ap (cells_of new) seat.2 ∙ ap planned_cells more.contents_are ∙ planned_more _ (control_at_start w)
           ∙ ap (λ (cells : List HubCell). cells ++ cell_start w ∷ []) so_far.started ∙ one_more_begun c.loop-plan.yielded w;
       verified = one_more_verified c.loop-plan.yielded w so_far.verified c.in_ok-seat.ensures.verified;
       seated = subst (AreSeated new 0) (sym seat.2) more.seated;

@@ -1,5 +1,5 @@
 use Rattle.std.proofs.Common.{◌≡◌, ◌∙◌}
-use Rattle.command_answers.specs.Statuses.{status_of}
+use Rattle.command_answers.specs.Statuses.{command_status_of}
 use Rattle.cellplan_c.proofs.HandingOver.{named_so, texts_refused, plan_handed_over}
 use Rattle.cellplan_c.proofs.hand_overs.hand_over_to.Goals as goal
 
@@ -12,5 +12,5 @@ returns-in-Ok-clause-handed_over c =
 pub returns-in-Err-clause-handed_over : goal.returns-in-Err-clause-handed_over
 returns-in-Err-clause-handed_over c =
     let are = named_so c.args.instance.now _ c.args.plan.now c.args.at _ _ c.name_in.ensures c.in-Err.ensures in
-    let status_is : c.from.result ≡ status_of c.in-Err.fault = c.from.ensures ∙ c.status.ensures in
+    let status_is : c.from.result ≡ command_status_of c.in-Err.fault = c.from.ensures ∙ c.status.ensures in
     texts_refused _ _ _ _ c.in-Err.fault c.from.result _ _ c.if-at-gt-MAX_MOMENT.false are status_is

@@ -1,7 +1,7 @@
 use Rattle.std.proofs.Common.{◌+◌, ◌∙◌, inr, length, arith, le_refl, refl, sym}
 use Rattle.std.proofs.lemmas.Result.{on_ok_weaker}
 use Rattle.plan_decide.specs.Settings.{case_in}
-use Rattle.plan_decide.specs.Cases.{job_count}
+use Rattle.plan_decide.specs.Cases.{case_jobs}
 use Rattle.plan_decide.proofs.Collecting.{doubt_is, pair_exclusion, pair_more, pair_open, pair_passed, this_left}
 use Rattle.plan_decide.proofs.pairs.add_pair.Goals as goal
 
@@ -10,8 +10,8 @@ returns-in_ok-or_fewer-in-Never-clause-found g c =
     let t = case_in c.args.setting.now in
     let ss = c.args.standings.now in
     let other_doubt = sym c.standing_of.ensures ∙ c.in-Doubt.is in
-    let one_is = doubt_is t (job_count t) ss c.requires.standings c.args.one c.requires.doubt in
-    let other_is = doubt_is t (job_count t) ss c.requires.standings c.args.other other_doubt in
+    let one_is = doubt_is t (case_jobs t) ss c.requires.standings c.args.one c.requires.doubt in
+    let other_is = doubt_is t (case_jobs t) ss c.requires.standings c.args.other other_doubt in
     let exclusion = pair_exclusion t c.args.one c.args.other c.in_ok-or_fewer-in-Never.or_fewer c.requires.ascending one_is other_is (rw c.in-Never.is at c.in_ok-ask_both.ensures) c.in_ok-or_fewer-in-Never.ensures in
     on_ok_weaker c.list_one.result (λ is. pair_more t ss c.args.one c.args.other c.in_ok-or_fewer-in-Never.or_fewer c.args.found.now c.list_one.new.found is c.list_one.ensures.same exclusion c.requires.doubt other_doubt c.requires.found) c.list_one.ensures.listed
 

@@ -1,14 +1,14 @@
 use Rattle.std.proofs.Common.{◌+◌, ◌∙◌, length, arith, ap, le_refl}
 use Rattle.shop_base.specs.Plan.{PlannedShop, jobs}
 use Rattle.plan_decide.specs.Settings.{case_in}
-use Rattle.plan_decide.specs.Cases.{job_count}
+use Rattle.plan_decide.specs.Cases.{case_jobs}
 use Rattle.plan_decide.proofs.Collecting.{row_begins, row_ends, row_without}
 use Rattle.plan_decide.proofs.pairs.add_pairs_of.Goals as goal
 
 pub returns-clause-found : goal.returns-clause-found
 returns-clause-found g c =
     let t = case_in c.args.setting.now in
-    row_ends t c.args.standings.now c.args.one c.loop-other.other (job_count t) c.loop-other.found c.requires.standings.count (omega (arith, c.loop-other-test.false, c.job_count-jobs.ensures.count, ap (λ (p : PlannedShop). jobs p) c.cell.ensures.plan)) c.loop-other.invariant.0
+    row_ends t c.args.standings.now c.args.one c.loop-other.other (case_jobs t) c.loop-other.found c.requires.standings.count (omega (arith, c.loop-other-test.false, c.job_count-jobs.ensures.count, ap (λ (p : PlannedShop). jobs p) c.cell.ensures.plan)) c.loop-other.invariant.0
 
 pub returns-in_default : goal.returns-in_default
 returns-in_default g c = record {

@@ -1,7 +1,7 @@
 use Rattle.std.proofs.Common.{◌<◌, ◌≤◌, List, [], ◌∷◌, length, get_or, set, sym, ap, ◌∙◌, arith}
 use Rattle.run_gantt.specs.declared.visits.LoggedVisit.{LoggedVisit}
 use Rattle.run_gantt.specs.declared.visit_ends.VisitEnd.{VisitEnd}
-use Rattle.run_gantt.specs.Visits.{visit_of}
+use Rattle.run_gantt.specs.Visits.{logged_visit_of}
 use Rattle.run_gantt.proofs.MachineVisits.{machine_visits-count, machine_visits-passed, machine_visits-noted}
 use Rattle.run_gantt.proofs.visits.Visits.note.Goals as goal
 
@@ -22,5 +22,5 @@ returns c = λ n is.
     rw c.in-Order.is (
     c.in_ok-put_first.ensures
     ∙ ap (λ (end : VisitEnd). set rows machine (visit end ∷ get_or rows machine [])) c.visit_end_at-end.ensures
-    ∙ ap (λ (l : List (List LoggedVisit)). set l machine (visit_of order machine later ∷ get_or l machine [])) is
+    ∙ ap (λ (l : List (List LoggedVisit)). set l machine (logged_visit_of order machine later ∷ get_or l machine [])) is
     ∙ sym (machine_visits-noted n order later machine c.in-At.is inside))
