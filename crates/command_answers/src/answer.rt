@@ -8,10 +8,10 @@ pub struct Answer {
 }
 
 /// What a step of a command gives, or why the command has no answer.
-pub type Outcome<T> = Result<T, CommandFault>;
+pub type CommandResult<T> = Result<T, CommandFault>;
 
 /// The answer of a command, or why there is none.
-pub type Answered = Outcome<Answer>;
+pub type Answered = CommandResult<Answer>;
 
 /// The status of a good answer.
 pub const GOOD: u8 = 0;

@@ -6,7 +6,7 @@ ghost use Rattle.command_answers.specs.{Checks.accepted_in, Steps.IsOrMemory};
 ghost use Rattle.command_answers.specs.Cells.{IsCellLine, paths_of, AddsCell, IsAdded, LoadsOne, LoadsFor, LoadsEach};
 ghost use Rattle.command_answers.specs.Cells.{IsReadBefore, IsShopRead, LoadsCells};
 
-use crate::answer::{Answer, Outcome};
+use crate::answer::{Answer, CommandResult};
 use crate::checks::loaded_answer;
 use crate::command_fault::CommandFault;
 use crate::inputs::ParsedInputs;
@@ -36,7 +36,7 @@ pub fn load_cells<T: Texts>(
     path: &str,
     name: Option<&[u8]>,
     plans: &[String],
-) -> Outcome<Cells>
+) -> CommandResult<Cells>
     ensures { LoadsCells T.gives path.now (option_copied name.entry) (paths_of plans.now) texts.old result texts.new }
 {
     let text = texts.text(alloc, path)?;
@@ -50,7 +50,7 @@ fn load_each<T: Texts>(
     text: &[u8],
     name: Option<&[u8]>,
     plans: &[String],
-) -> Outcome<Cells>
+) -> CommandResult<Cells>
     ensures { LoadsEach T.gives text.now (option_copied name.entry) [] (paths_of plans.now) texts.old result texts.new }
 {
     let (mut shop, mut cells) = (None, Vec::new(alloc));
@@ -84,7 +84,7 @@ fn add_cell<T: Texts>(
     path: &str,
     shop: &mut Option<SharedShop>,
     cells: &mut Vec<LeanPlan>,
-) -> Option<Outcome<Cells>>
+) -> Option<CommandResult<Cells>>
     requires { IsReadBefore text.now (option_copied name) shop.old }
     ensures read { IsReadBefore text.now (option_copied name.entry) shop.new }
     ensures added { AddsCell T.gives text.now (option_copied name.entry) cells.old.items path.now
@@ -97,7 +97,11 @@ fn add_cell<T: Texts>(
 }
 
 /// Adds a plan, if it is accepted; else gives what the loading ends with: its line, or that memory ran out.
-fn add_loaded(alloc: Global, loaded: Loaded, cells: &mut Vec<LeanPlan>) -> Option<Outcome<Cells>>
+fn add_loaded(
+    alloc: Global,
+    loaded: Loaded,
+    cells: &mut Vec<LeanPlan>,
+) -> Option<CommandResult<Cells>>
     ensures { IsAdded cells.old.items (accepted_in loaded) result cells.new.items }
 {
     match loaded.accepted() {
@@ -125,7 +129,7 @@ fn load_one<T: Texts>(
     name: Option<&[u8]>,
     path: &str,
     shop: &mut Option<SharedShop>,
-) -> Outcome<Loaded>
+) -> CommandResult<Loaded>
     requires { IsReadBefore text.now (option_copied name) shop.old }
     ensures read { IsReadBefore text.now (option_copied name.entry) shop.new }
     ensures loaded { LoadsOne T.gives text.now (option_copied name.entry) path.now texts.old result texts.new }
@@ -135,7 +139,7 @@ fn load_one<T: Texts>(
 }
 
 /// The verdict on the plan of a file, for this shop.
-fn load_for<T: Texts>(alloc: Global, texts: &mut T, shop: Shop, path: &str) -> Outcome<Loaded>
+fn load_for<T: Texts>(alloc: Global, texts: &mut T, shop: Shop, path: &str) -> CommandResult<Loaded>
     ensures { LoadsFor T.gives shop path.now texts.old result texts.new }
 {
     let plan = plan(alloc, texts, path)?;
@@ -148,7 +152,7 @@ fn shop_of(
     text: &[u8],
     name: Option<&[u8]>,
     shop: &mut Option<SharedShop>,
-) -> Outcome<Shop>
+) -> CommandResult<Shop>
     requires { IsReadBefore text.now (option_copied name) shop.old }
     ensures kept { IsReadBefore text.now (option_copied name.entry) shop.new }
     ensures read { IsShopRead text.now (option_copied name.entry) result }
@@ -163,7 +167,7 @@ fn shop_of(
 }
 
 /// The shared shop once more.
-fn one_of(alloc: Global, shared: &SharedShop) -> Outcome<Shop>
+fn one_of(alloc: Global, shared: &SharedShop) -> CommandResult<Shop>
     ensures { IsOrMemory (λ shop. shop ≡ shared.now) result }
 {
     match shared.shop(alloc) {
@@ -173,7 +177,7 @@ fn one_of(alloc: Global, shared: &SharedShop) -> Outcome<Shop>
 }
 
 /// The shop of the instance in the text, ready to be shared.
-fn read_shared(alloc: Global, text: &[u8], name: Option<&[u8]>) -> Outcome<SharedShop>
+fn read_shared(alloc: Global, text: &[u8], name: Option<&[u8]>) -> CommandResult<SharedShop>
     ensures { IsShopRead text.now (option_copied name.entry) result }
 {
     let named = load_instance(alloc, text, name)?;
@@ -184,7 +188,7 @@ fn read_shared(alloc: Global, text: &[u8], name: Option<&[u8]>) -> Outcome<Share
 }
 
 /// The line of the plan of this number, which isn't accepted: the number, a space, and the line of the plan alone.
-fn cell_line(alloc: Global, number: u64, loaded: Loaded) -> Outcome<Cells>
+fn cell_line(alloc: Global, number: u64, loaded: Loaded) -> CommandResult<Cells>
     ensures { IsCellLine number loaded result }
 {
     let line = loaded_answer(alloc, loaded)?;

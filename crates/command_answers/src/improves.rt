@@ -9,7 +9,7 @@ ghost use Rattle.command_answers.specs.Documents.{IsDocumentAnswer};
 ghost use Rattle.command_answers.specs.Improving.{RoundsOf, IsBestAnswer, ordered};
 ghost use Rattle.command_answers.specs.Commands.{BettersPlan, RunsImprove};
 
-use crate::answer::{Answered, GOOD, Outcome, REFUSED};
+use crate::answer::{Answered, CommandResult, GOOD, REFUSED};
 use crate::inputs::{ParsedInputs, RunFiles, read_inputs, serially};
 use crate::lines::document_answer;
 use crate::rest_improves::{logged_answer, unfound_answer};
@@ -70,7 +70,7 @@ fn better_answer<T: Texts, W: Watch>(
 }
 
 /// The plan itself or, if it has no orders at all, the serial plan with its numbers.
-pub(crate) fn with_orders(alloc: Global, parsed: ParsedInputs) -> Outcome<ParsedInputs>
+pub(crate) fn with_orders(alloc: Global, parsed: ParsedInputs) -> CommandResult<ParsedInputs>
     ensures { IsOrMemory (λ with. with ≡ ordered parsed) result }
 {
     let read = &parsed;

@@ -7,7 +7,7 @@ ghost use Rattle.command_answers.specs.Steps.{IsOrMemory};
 ghost use Rattle.command_answers.specs.Serial.{serially};
 ghost use Rattle.command_answers.specs.Commands.{ReadsBoth, Shapes};
 
-use crate::answer::Outcome;
+use crate::answer::CommandResult;
 use crate::readings::{instance, plan};
 use crate::texts::Texts;
 use plan_seek::serial_orders;
@@ -92,7 +92,7 @@ pub(crate) fn read_inputs<T: Texts>(
     alloc: Global,
     texts: &mut T,
     inputs: &InputPaths<'_>,
-) -> Outcome<ParsedInputs>
+) -> CommandResult<ParsedInputs>
     ensures { ReadsBoth T.gives inputs.now texts.old result texts.new }
 {
     let shop = instance(alloc, texts, inputs.instance, inputs.name)?.shop;
@@ -105,7 +105,7 @@ pub fn shape_files<T: Texts>(
     alloc: Global,
     texts: &mut T,
     inputs: &InputPaths<'_>,
-) -> Outcome<Result<Shaped, ShapeFault>>
+) -> CommandResult<Result<Shaped, ShapeFault>>
     ensures { Shapes T.gives inputs.now texts.old result texts.new }
 {
     let parsed = read_inputs(alloc, texts, inputs)?;
@@ -113,7 +113,7 @@ pub fn shape_files<T: Texts>(
 }
 
 /// The serial plan with the numbers of this one, whose orders are dropped.
-pub(crate) fn serially(alloc: Global, parsed: ParsedInputs) -> Outcome<ParsedInputs>
+pub(crate) fn serially(alloc: Global, parsed: ParsedInputs) -> CommandResult<ParsedInputs>
     ensures { IsOrMemory (λ serial. serial ≡ serially parsed) result }
 {
     let (serial, order) = serially_beside(alloc, parsed)?;
@@ -125,7 +125,7 @@ pub(crate) fn serially(alloc: Global, parsed: ParsedInputs) -> Outcome<ParsedInp
 pub(crate) fn serially_beside(
     alloc: Global,
     parsed: ParsedInputs,
-) -> Outcome<(ParsedInputs, Vec<Vec<JobNo>>)>
+) -> CommandResult<(ParsedInputs, Vec<Vec<JobNo>>)>
     ensures { IsOrMemory (λ both. both.0 ≡ serially parsed) result }
 {
     let ParsedInputs { shop, plan } = parsed;

@@ -10,7 +10,7 @@ ghost use Rattle.command_answers.specs.KnownRests.{IsAtStart, IsInstead, IsFound
 ghost use Rattle.command_answers.specs.Steps.{IsOrMemory};
 ghost use Rattle.command_answers.specs.Commands.{AsksOfRun, IfThereBy, WithNames, WithNamesAndLog, WithNamesAndRun};
 
-use crate::answer::{Answer, Outcome};
+use crate::answer::{Answer, CommandResult};
 use crate::asked_job::{absent_job, no_job_answer};
 use crate::inputs::{RunFiles, shape_files};
 use crate::naming::{NamesAndLog, names_and_log, names_of};
@@ -47,7 +47,7 @@ pub(crate) fn rest_of_run<T: Texts>(
     texts: &mut T,
     run: &RunFiles<'_>,
     job: Option<JobNo>,
-) -> Outcome<Result<KnownRest, Answer>>
+) -> CommandResult<Result<KnownRest, Answer>>
     requires { IfSome run.now.at (λ present. present ≤ MAX_MOMENT) }
     ensures asks { AsksOfRun T.gives IsInstead job (IsFoundRest run.now.at) run.now texts.old result texts.new }
     ensures job { IfOk result (λ found. IfOk found (λ s. IfSome job (λ j. j < jobs s.rest.plan))) }
@@ -67,7 +67,7 @@ fn shaped_rest<T: Texts>(
     shaped: Shaped,
     run: &RunFiles<'_>,
     job: Option<JobNo>,
-) -> Outcome<Result<KnownRest, Answer>>
+) -> CommandResult<Result<KnownRest, Answer>>
     requires { IfSome run.now.at (λ present. present ≤ MAX_MOMENT) }
     ensures asks { IfThereBy IsInstead job shaped (WithNamesAndRun T.gives run.now.names run.now.log shaped
         (λ book log. IsOrMemory (IsFoundRest run.now.at shaped book log))) texts.old result texts.new }
@@ -93,7 +93,7 @@ fn logged_rest<T: Texts>(
     names: Option<&str>,
     log: &str,
     at: Option<Moment>,
-) -> Outcome<Result<KnownRest, Answer>>
+) -> CommandResult<Result<KnownRest, Answer>>
     requires { IfSome at (λ present. present ≤ MAX_MOMENT) }
     ensures asks { WithNamesAndLog T.gives (option_copied names.entry) log.now shaped
         (λ book text. IsFoundRest at shaped book (Some text)) texts.old result texts.new }
@@ -116,7 +116,7 @@ fn log_rest(
     shaped: Shaped,
     read: NamesAndLog,
     at: Option<Moment>,
-) -> Outcome<Result<KnownRest, Answer>>
+) -> CommandResult<Result<KnownRest, Answer>>
     requires { IfSome at (λ present. present ≤ MAX_MOMENT) }
     ensures found { IsOrMemory (IsFoundRest at shaped read.names (Some read.log.items)) result }
     ensures plan { IfOk result (λ found. IfOk found (λ s. s.rest.plan ≡ shaped)) }
@@ -145,7 +145,7 @@ fn whole_rest<T: Texts>(
     texts: &mut T,
     shaped: Shaped,
     names: Option<&str>,
-) -> Outcome<Result<KnownRest, Answer>>
+) -> CommandResult<Result<KnownRest, Answer>>
     ensures asks { (at : Option ℕ) → WithNames T.gives (option_copied names.entry) shaped
         (λ book. IsOrMemory (IsFoundRest at shaped book None)) texts.old result texts.new }
     ensures plan { IfOk result (λ found. IfOk found (λ s. s.rest.plan ≡ shaped)) }

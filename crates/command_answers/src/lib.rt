@@ -41,7 +41,7 @@ mod shape_faults;
 mod shapes;
 mod texts;
 
-pub use answer::{Answer, Answered, GOOD, Outcome, REFUSED};
+pub use answer::{Answer, Answered, CommandResult, GOOD, REFUSED};
 pub use bound_answers::bounds_answer;
 pub use cells::{Cells, load_cells};
 pub use checks::{check, loaded_answer};

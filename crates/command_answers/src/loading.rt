@@ -9,7 +9,7 @@ ghost use Rattle.command_answers.specs.Shapes.{IsShapedOrNot};
 ghost use Rattle.command_answers.specs.Steps.{IsOrMemory};
 ghost use Rattle.command_answers.specs.Commands.{Loads};
 
-use crate::answer::Outcome;
+use crate::answer::CommandResult;
 use crate::command_fault::CommandFault;
 use crate::inputs::{InputPaths, ParsedInputs, read_inputs};
 use crate::readings::{load_instance, load_plan};
@@ -41,7 +41,12 @@ impl Loaded {
 
 /// The verdict on a plan for an instance, both given as texts. Without a name the first text is one instance, else a
 /// collection with an instance of this name.
-pub fn load(alloc: Global, instance: &[u8], name: Option<&[u8]>, plan: &[u8]) -> Outcome<Loaded>
+pub fn load(
+    alloc: Global,
+    instance: &[u8],
+    name: Option<&[u8]>,
+    plan: &[u8],
+) -> CommandResult<Loaded>
     ensures { AreTextsAnswered instance.now (option_copied name.entry) plan.now IsLoaded result }
 {
     let shop = load_instance(alloc, instance, name)?.shop;
@@ -56,7 +61,7 @@ pub fn load_shaped(
     instance: &[u8],
     name: Option<&[u8]>,
     plan: &[u8],
-) -> Outcome<Result<Shaped, ShapeFault>>
+) -> CommandResult<Result<Shaped, ShapeFault>>
     ensures { AreTextsAnswered instance.now (option_copied name.entry) plan.now IsShapedOrNot result }
 {
     let named = load_instance(alloc, instance, name)?;
@@ -73,7 +78,7 @@ pub fn load_files<T: Texts>(
     alloc: Global,
     texts: &mut T,
     inputs: &InputPaths<'_>,
-) -> Outcome<Loaded>
+) -> CommandResult<Loaded>
     ensures { Loads T.gives inputs.now texts.old result texts.new }
 {
     let parsed = read_inputs(alloc, texts, inputs)?;
@@ -81,7 +86,7 @@ pub fn load_files<T: Texts>(
 }
 
 /// The verdict on a plan for a shop.
-pub(crate) fn judged(alloc: Global, parsed: ParsedInputs) -> Outcome<Loaded>
+pub(crate) fn judged(alloc: Global, parsed: ParsedInputs) -> CommandResult<Loaded>
     ensures loaded { IsOrMemory (IsLoaded parsed) result }
     ensures not_shaped { ¬ (IsWellShaped parsed) → IsOk result }
 {

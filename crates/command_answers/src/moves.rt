@@ -10,7 +10,7 @@ ghost use Rattle.command_answers.specs.Steps.{IsOrMemory};
 ghost use Rattle.command_answers.specs.Commands.{RunsMoves};
 ghost use Rattle.plan_explain.specs.Known.{IsKnownVerdict};
 
-use crate::answer::{Answer, Answered, Outcome};
+use crate::answer::{Answer, Answered, CommandResult};
 use crate::command_fault::Unanswered;
 use crate::inputs::RunFiles;
 use crate::known_rests::{KnownRest, rest_of_run};
@@ -59,7 +59,12 @@ fn moves_below(alloc: Global, mut line: Answer, names: &Names, rest: Rest<Shaped
 }
 
 /// Adds a line for each move. A plan with a cycle has none.
-fn push_moves(alloc: Global, text: &mut Vec<u8>, names: &Names, rest: Rest<Shaped>) -> Outcome<()>
+fn push_moves(
+    alloc: Global,
+    text: &mut Vec<u8>,
+    names: &Names,
+    rest: Rest<Shaped>,
+) -> CommandResult<()>
     ensures lines { OnOk result ((lines : List ℕ) × AreLinesBelow names.now rest.plan rest.cell rest.present lines
         × (text.new.items ≡ text.old.items ++ lines)) }
     ensures fault { IfErr result (λ fault. fault ≡ Memory) }

@@ -6,7 +6,7 @@ ghost use Rattle.command_answers.specs.Naming.{AreNamesRead, ReadsNames, ReadsNa
 ghost use Rattle.command_answers.specs.Steps.{Concludes, Then};
 ghost use Rattle.command_answers.specs.Texts.{Asks};
 
-use crate::answer::Outcome;
+use crate::answer::CommandResult;
 use crate::texts::Texts;
 use people_names::{Names, read_names};
 use shop_base::Shaped;
@@ -20,7 +20,7 @@ pub(crate) struct NamesAndLog {
 }
 
 /// The names in the text, for the shop of this plan.
-fn load_names(alloc: Global, text: &[u8], shaped: &Shaped) -> Outcome<Names>
+fn load_names(alloc: Global, text: &[u8], shaped: &Shaped) -> CommandResult<Names>
     ensures { AreNamesRead shaped.now text.now result }
 {
     let jobs = shaped.job_count() as usize;
@@ -35,7 +35,7 @@ pub(crate) fn names_of<T: Texts>(
     texts: &mut T,
     path: Option<&str>,
     shaped: &Shaped,
-) -> Outcome<Names>
+) -> CommandResult<Names>
     ensures { ReadsNames T.gives (option_copied path.entry) shaped.now texts.old result texts.new }
 {
     match path {
@@ -45,7 +45,12 @@ pub(crate) fn names_of<T: Texts>(
 }
 
 /// The names in the file of this path, for the shop of this plan.
-fn names_in<T: Texts>(alloc: Global, texts: &mut T, path: &str, shaped: &Shaped) -> Outcome<Names>
+fn names_in<T: Texts>(
+    alloc: Global,
+    texts: &mut T,
+    path: &str,
+    shaped: &Shaped,
+) -> CommandResult<Names>
     ensures { ReadsNamesOf T.gives path.now shaped.now texts.old result texts.new }
 {
     let text = texts.text(alloc, path)?;
@@ -59,7 +64,7 @@ pub(crate) fn names_and_log<T: Texts>(
     shaped: &Shaped,
     names: Option<&str>,
     log: &str,
-) -> Outcome<NamesAndLog>
+) -> CommandResult<NamesAndLog>
     ensures { Then (ReadsNames T.gives (option_copied names.entry) shaped.now)
         (λ book. Then (Asks T.gives log.now)
         (λ bytes. Concludes (λ read. IsOkAnd read (λ both. (both.names ≡ book) × (both.log.items ≡ bytes)))))

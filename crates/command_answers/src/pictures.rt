@@ -18,7 +18,7 @@ ghost use Rattle.command_answers.specs.Pictures.{DrawsLog, DrawsRest, IsLineAlon
 ghost use Rattle.command_answers.specs.Pictures.{IsRunPicture, IsVerdictDrawn};
 ghost use Rattle.command_answers.specs.Pictures.{line_at, log_sheet, run_head, run_sheet};
 
-use crate::answer::{Answer, GOOD, Outcome, REFUSED};
+use crate::answer::{Answer, CommandResult, GOOD, REFUSED};
 use crate::inputs::{Files, RunFiles, shape_files};
 use crate::known_rests::{KnownRest, rest_of_run};
 use crate::logs::log_fault_answer;
@@ -57,7 +57,7 @@ pub fn log_picture<T: Texts>(
     texts: &mut T,
     files: &Files<'_>,
     log: &str,
-) -> Outcome<Drawn>
+) -> CommandResult<Drawn>
     ensures { DrawsLog T.gives files.now.inputs (option_copied files.now.names) log.now texts.old result texts.new }
 {
     match shape_files(alloc, texts, &files.inputs)? {
@@ -71,7 +71,7 @@ pub fn log_picture<T: Texts>(
 }
 
 /// The line of a plan that isn't well shaped, with its first fault.
-fn unshaped_drawn(alloc: Global, fault: ShapeFault) -> Outcome<Drawn>
+fn unshaped_drawn(alloc: Global, fault: ShapeFault) -> CommandResult<Drawn>
     ensures { IsOrMemory (IsLineAlone (IsRefusedLine fault)) result }
 {
     Ok(Drawn::Line(not_shaped_answer(alloc, fault)?))
@@ -84,7 +84,7 @@ fn shaped_log<T: Texts>(
     shaped: &Shaped,
     names: Option<&str>,
     log: &str,
-) -> Outcome<Drawn>
+) -> CommandResult<Drawn>
     ensures { let p = shaped.now in WithNamesAndLog T.gives (option_copied names.entry) log.now p
         (λ book. IsLogDrawn book p) texts.old result texts.new }
 {
@@ -95,7 +95,7 @@ fn shaped_log<T: Texts>(
 }
 
 /// Draws a log that is audited against a plan.
-fn log_drawn(alloc: Global, names: Names, shaped: &Shaped, log: &[u8]) -> Outcome<Drawn>
+fn log_drawn(alloc: Global, names: Names, shaped: &Shaped, log: &[u8]) -> CommandResult<Drawn>
     ensures { IsOrMemory (IsLogDrawn names shaped.now log.now) result }
 {
     match audit(alloc, shaped, log) {
@@ -146,7 +146,7 @@ pub fn schedule_picture<T: Texts>(
     alloc: Global,
     texts: &mut T,
     run: &RunFiles<'_>,
-) -> Outcome<Drawn>
+) -> CommandResult<Drawn>
     requires { IfSome run.now.at (λ present. present ≤ MAX_MOMENT) }
     ensures { DrawsRest T.gives run.now texts.old result texts.new }
 {
@@ -155,7 +155,7 @@ pub fn schedule_picture<T: Texts>(
 }
 
 /// Draws a run that goes on from where it is, or has the line that stands instead.
-fn found_drawn(alloc: Global, found: Result<KnownRest, Answer>) -> Outcome<Drawn>
+fn found_drawn(alloc: Global, found: Result<KnownRest, Answer>) -> CommandResult<Drawn>
     requires { IfOk found (λ s. IsKnownVerdict s.rest.plan s.rest.cell s.rest.present s.verdict) }
     ensures drawn { IfOk found (λ s. IsOrMemory (IsVerdictDrawn s.names s.rest.plan s.rest.cell s.rest.present
         (line_at s.at s.entries.items s.rest.present) (drawn_visits s.rest.plan s.entries.items) s.verdict) result) }

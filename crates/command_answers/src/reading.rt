@@ -5,7 +5,7 @@ ghost use Rattle.command_answers.specs.declared.command_fault.CommandFault.TheVa
 ghost use Rattle.command_answers.specs.Reading.{IsFaultOfSystem};
 ghost use Rattle.command_answers.specs.Texts.{AreTooMany, IsFileFault};
 
-use crate::answer::Outcome;
+use crate::answer::CommandResult;
 use crate::command_fault::CommandFault;
 use std::alloc::Global;
 use std::io::{self, Read};
@@ -14,7 +14,7 @@ use text_lines::MAX_INPUT;
 /// The bytes that a reader gives until its end. There is room at first for as many as are expected, since room that
 /// grows is copied. No clause says what bytes the kit's files have, and a body that always answered `Read` would meet
 /// these clauses too: only tests show that what can be read is read.
-pub fn read_whole<R: Read + Drop>(alloc: Global, reader: R, expected: u64) -> Outcome<Vec<u8>>
+pub fn read_whole<R: Read + Drop>(alloc: Global, reader: R, expected: u64) -> CommandResult<Vec<u8>>
     ensures within { IfOk result (λ bytes. vec_len bytes ≤ MAX_INPUT) }
     ensures whole { IfOk result (λ bytes. IfSome (R.remaining reader) (λ all. bytes.items ≡ all)) }
     ensures fault { IfErr result IsFileFault }
@@ -28,7 +28,7 @@ pub fn read_whole<R: Read + Drop>(alloc: Global, reader: R, expected: u64) -> Ou
 }
 
 /// The bytes that were read to the end, or why they can't be had.
-fn whole_of(read: io::Result<usize>, bytes: Vec<u8>) -> Outcome<Vec<u8>>
+fn whole_of(read: io::Result<usize>, bytes: Vec<u8>) -> CommandResult<Vec<u8>>
     ensures within { IfOk read (λ _. vec_len bytes ≤ MAX_INPUT → result ≡ Ok bytes) }
     ensures beyond { IfOk read (λ _. MAX_INPUT < vec_len bytes → result ≡ Err InputTooLong) }
     ensures fault { IfErr read (λ error. IsErrAnd result (IsFaultOfSystem error)) }

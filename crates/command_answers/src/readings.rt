@@ -4,7 +4,7 @@ ghost use Rattle.std.specs.Option.{option_copied};
 ghost use Rattle.command_answers.specs.Readings.{IsInstanceRead, IsPlanRead};
 ghost use Rattle.command_answers.specs.Commands.{ReadsInstance, ReadsPlan};
 
-use crate::answer::Outcome;
+use crate::answer::CommandResult;
 use crate::texts::Texts;
 use orlib_read::{Named, read_from_collection, read_instance};
 use plan_text::read_plan;
@@ -12,7 +12,7 @@ use shop_base::Plan;
 use std::alloc::Global;
 
 /// The instance in the text.
-pub(crate) fn load_instance(alloc: Global, text: &[u8], name: Option<&[u8]>) -> Outcome<Named>
+pub(crate) fn load_instance(alloc: Global, text: &[u8], name: Option<&[u8]>) -> CommandResult<Named>
     ensures { IsInstanceRead text.now (option_copied name.entry) result }
 {
     match name {
@@ -22,7 +22,7 @@ pub(crate) fn load_instance(alloc: Global, text: &[u8], name: Option<&[u8]>) -> 
 }
 
 /// The plan in the text.
-pub(crate) fn load_plan(alloc: Global, text: &[u8]) -> Outcome<Plan>
+pub(crate) fn load_plan(alloc: Global, text: &[u8]) -> CommandResult<Plan>
     ensures { IsPlanRead text.now result }
 {
     Ok(read_plan(alloc, text)?)
@@ -34,7 +34,7 @@ pub(crate) fn instance<T: Texts>(
     texts: &mut T,
     path: &str,
     name: Option<&[u8]>,
-) -> Outcome<Named>
+) -> CommandResult<Named>
     ensures { ReadsInstance T.gives path.now (option_copied name.entry) texts.old result texts.new }
 {
     let text = texts.text(alloc, path)?;
@@ -42,7 +42,7 @@ pub(crate) fn instance<T: Texts>(
 }
 
 /// The plan in the file of this path.
-pub(crate) fn plan<T: Texts>(alloc: Global, texts: &mut T, path: &str) -> Outcome<Plan>
+pub(crate) fn plan<T: Texts>(alloc: Global, texts: &mut T, path: &str) -> CommandResult<Plan>
     ensures { ReadsPlan T.gives path.now texts.old result texts.new }
 {
     let text = texts.text(alloc, path)?;

@@ -7,7 +7,7 @@ ghost use Rattle.command_run.specs.Ending.{IsFaultPrinted, IsPrinted, Ends, Ends
 
 use crate::devices::Streams;
 use cell_drive::{BufferedSink, Source};
-use command_answers::{Answer, Answered, CommandFault, Outcome};
+use command_answers::{Answer, Answered, CommandFault, CommandResult};
 use run_log::{Sink, put_all};
 use std::alloc::{AllocError, Global};
 
@@ -47,7 +47,7 @@ pub(crate) fn end_aside<E: Sink>(alloc: Global, outcome: Answered, errors: &mut 
 }
 
 /// Prints an answer, and shows it.
-fn print<W: BufferedSink>(answer: &Answer, output: &mut W) -> Outcome<u8>
+fn print<W: BufferedSink>(answer: &Answer, output: &mut W) -> CommandResult<u8>
     ensures { IsPrinted answer.now (output_of W.Sink W.pending output.old)
         (output_of W.Sink W.pending output.new) result }
 {

@@ -7,7 +7,7 @@ ghost use Rattle.command_run.specs.Inputs.{IsInputRead, RunsInput};
 
 use crate::devices::Streams;
 use cell_drive::{BufferedSink, MAX_PIECE, Source, reading_room};
-use command_answers::{Answered, CommandFault, Outcome, facts_of};
+use command_answers::{Answered, CommandFault, CommandResult, facts_of};
 use std::alloc::Global;
 use text_lines::MAX_INPUT;
 
@@ -33,7 +33,7 @@ fn read_pieces<R: Source, W: BufferedSink>(
     input: &mut R,
     room: &mut [u8],
     output: &W,
-) -> Outcome<Vec<u8>>
+) -> CommandResult<Vec<u8>>
     requires room { (0 < length room.old) × (length room.old ≤ MAX_PIECE) }
     requires shown { W.pending output.now ≡ [] }
     ensures { IsInputRead (input_of R.Source input.old) (text_of result) (input_of R.Source input.new) }

@@ -11,7 +11,7 @@ use crate::command::{answered, run_files};
 use crate::devices::Streams;
 use cell_drive::{BufferedSink, Source};
 use command_answers::{
-    Answer, Answered, CommandFault, Drawn, Files, LogAnswer, Outcome, PlanAnswer, Texts,
+    Answer, Answered, CommandFault, CommandResult, Drawn, Files, LogAnswer, PlanAnswer, Texts,
     log_answer, log_picture, moves_answer, schedule_picture,
 };
 use command_words::Chosen;
@@ -74,7 +74,7 @@ pub(crate) fn drawing_answer<T: Texts, R: Source, W: BufferedSink>(
 /// Draws a picture. A line in its place is what is answered.
 fn drawn_answer<R: Source, W: BufferedSink>(
     alloc: Global,
-    drawn: Outcome<Drawn>,
+    drawn: CommandResult<Drawn>,
     streams: &mut Streams<R, W>,
 ) -> Answered
     ensures { Draws drawn streams.old streams.new result }

@@ -17,8 +17,8 @@ use Rattle.plan_verifier.specs.Leavings.{leaves_in, IsLastLeaving}
 use Rattle.plan_verifier.specs.Rest.{AreOrderedAhead}
 use Rattle.plan_verifier.specs.RestVerdicts.{IsAcceptableAhead}
 use Rattle.plan_bounds.specs.Bounds.{times_of}
-use Rattle.plan_limits.specs.declared.asking.Answer.{Answer}
-use Rattle.plan_limits.specs.declared.asking.Answer.TheVariants.{Never, Orders, Open}
+use Rattle.plan_limits.specs.declared.asking.LimitsAnswer.{LimitsAnswer}
+use Rattle.plan_limits.specs.declared.asking.LimitsAnswer.TheVariants.{Never, Orders, Open}
 use Rattle.plan_limits.specs.Stages.{stage_of}
 use Rattle.plan_limits.specs.Limits.{NoPlanKeepsFrom}
 use Rattle.plan_limits.specs.Answered.{OnAnsweredNever}
@@ -89,7 +89,7 @@ reached_by s set = go s.is_whole set.whole
 pub asked_none : (s : AskedRest) (limits : List (Option ℕ)) → IsSet s → NoPlanKeepsFrom (stage_of s.plan s.cell s.present) limits → NoPlanKeeps (case_in s) limits
 asked_none s limits set none = none_keeps s.plan (past_in s) (freed s.free s.plan.plan.budget) limits s.cell s.present (reached_by s set) none
 
-pub never_if : {E P Q : Type 0} (r : Result Answer E) → (P → Q) → IfOk r (OnAnsweredNever P) → IfOk r (OnAnsweredNever Q)
+pub never_if : {E P Q : Type 0} (r : Result LimitsAnswer E) → (P → Q) → IfOk r (OnAnsweredNever P) → IfOk r (OnAnsweredNever Q)
 never_if (Ok Never) follows says = follows says
 never_if (Ok (Orders orders)) follows says = tt
 never_if (Ok Open) follows says = tt

@@ -10,7 +10,7 @@ use crate::asked::{Asked, limits_for};
 use crate::decided::Within;
 use crate::setting::Setting;
 use arc_choice::{Choose, Question, Side, State};
-use plan_limits::{Answer, ask};
+use plan_limits::{LimitsAnswer, ask};
 use shop_base::{Moment, Planned};
 use std::alloc::{AllocError, Global};
 
@@ -68,7 +68,7 @@ impl<C: Choose, W: Watch> Asker<'_, C, W> {
         alloc: Global,
         setting: &Setting<'_, P>,
         asked: Asked,
-    ) -> Result<Answer, AllocError>
+    ) -> Result<LimitsAnswer, AllocError>
         ensures { IfOk result (OnAnsweredNever (IsImpossible (case_in setting.now) asked)) }
     {
         let limits = limits_for(alloc, setting, asked)?;
@@ -81,7 +81,7 @@ impl<C: Choose, W: Watch> Asker<'_, C, W> {
         alloc: Global,
         setting: &Setting<'_, P>,
         limits: &[Option<Moment>],
-    ) -> Result<Answer, AllocError>
+    ) -> Result<LimitsAnswer, AllocError>
         requires { length limits.now ≡ jobs setting.now.plan }
         ensures { IfOk result (OnAnsweredNever (NoPlanKeeps (case_in setting.now) limits.now)) }
     {
@@ -94,7 +94,7 @@ impl<C: Choose, W: Watch> Asker<'_, C, W> {
         alloc: Global,
         setting: &Setting<'_, P>,
         limits: &[Option<Moment>],
-    ) -> Result<Answer, AllocError>
+    ) -> Result<LimitsAnswer, AllocError>
         requires { length limits.now ≡ jobs setting.now.plan }
         ensures { IfOk result (OnAnsweredNever (NoPlanKeeps (case_in setting.now) limits.now)) }
     {
@@ -108,7 +108,7 @@ impl<C: Choose, W: Watch> Asker<'_, C, W> {
         setting: &Setting<'_, P>,
         limits: &[Option<Moment>],
         choices: u64,
-    ) -> Result<Answer, AllocError>
+    ) -> Result<LimitsAnswer, AllocError>
         requires { length limits.now ≡ jobs setting.now.plan }
         ensures { IfOk result (OnAnsweredNever (NoPlanKeeps (case_in setting.now) limits.now)) }
     {

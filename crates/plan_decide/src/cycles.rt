@@ -13,7 +13,7 @@ use crate::setting::Setting;
 use alt_graph::Solved;
 use arc_choice::Choose;
 use cell_tables::Rest;
-use plan_limits::Answer;
+use plan_limits::LimitsAnswer;
 use plan_verifier::earliest_moments;
 use shop_base::Planned;
 use std::alloc::{AllocError, Global};
@@ -66,9 +66,9 @@ fn ask_any_acyclic<P: Planned, C: Choose, W: Watch>(
 {
     let limits = limits_for(alloc, setting, Asked::Nobody)?;
     match asker.ask_limits(alloc, setting, &limits)? {
-        Answer::Never => Ok(Acyclic::Never),
-        Answer::Open => Ok(Acyclic::Open),
-        Answer::Orders(order) => {
+        LimitsAnswer::Never => Ok(Acyclic::Never),
+        LimitsAnswer::Open => Ok(Acyclic::Open),
+        LimitsAnswer::Orders(order) => {
             if keeps(alloc, setting, &limits, order)? {
                 Ok(Acyclic::Found)
             } else {

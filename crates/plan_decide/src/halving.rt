@@ -17,7 +17,7 @@ use crate::setting::{Setting, bound_of_job, is_waiting};
 use arc_choice::Choose;
 use cell_tables::copy_orders;
 use plan_bounds::least_makespan;
-use plan_limits::Answer;
+use plan_limits::LimitsAnswer;
 use plan_verifier::later;
 use shop_base::limits::MAX_MOMENT;
 use shop_base::{JobNo, Moment, Planned};
@@ -156,9 +156,9 @@ fn look<P: Planned, C: Choose, W: Watch>(
     ensures { IfOk result (IsLooked (case_in setting.now) objective limit value) }
 {
     match asker.ask(alloc, setting, Asked::AtMost(objective, limit))? {
-        Answer::Never => Ok(Looked::Never),
-        Answer::Open => Ok(Looked::Open),
-        Answer::Orders(order) => match plan_by(alloc, setting, objective, order)? {
+        LimitsAnswer::Never => Ok(Looked::Never),
+        LimitsAnswer::Open => Ok(Looked::Open),
+        LimitsAnswer::Orders(order) => match plan_by(alloc, setting, objective, order)? {
             Some(found) => {
                 if found.value < value {
                     Ok(Looked::Better(found))

@@ -13,7 +13,7 @@ use crate::decided::Excluded;
 use crate::keeping::keeps;
 use crate::setting::Setting;
 use arc_choice::Choose;
-use plan_limits::Answer;
+use plan_limits::LimitsAnswer;
 use shop_base::{JobNo, Moment, Planned};
 use std::alloc::{AllocError, Global};
 
@@ -108,9 +108,9 @@ fn spare<P: Planned, C: Choose, W: Watch>(
         return Ok(Spared::LeftOut(fewer));
     }
     match asker.ask_limits(alloc, setting, &fewer)? {
-        Answer::Never => Ok(Spared::LeftOut(fewer)),
-        Answer::Open => Ok(Spared::Open),
-        Answer::Orders(order) => {
+        LimitsAnswer::Never => Ok(Spared::LeftOut(fewer)),
+        LimitsAnswer::Open => Ok(Spared::Open),
+        LimitsAnswer::Orders(order) => {
             if keeps(alloc, setting, &fewer, order)? {
                 Ok(Spared::Needed)
             } else {

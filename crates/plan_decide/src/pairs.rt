@@ -15,7 +15,7 @@ use crate::listing::{Listing, list_one};
 use crate::setting::Setting;
 use crate::standing::{Standing, standing_of};
 use arc_choice::Choose;
-use plan_limits::Answer;
+use plan_limits::LimitsAnswer;
 use shop_base::{JobNo, Planned};
 use std::alloc::{AllocError, Global};
 
@@ -179,9 +179,9 @@ fn ask_both<P: Planned, C: Choose, W: Watch>(
 {
     let limits = limits_for(alloc, setting, Asked::Both(one, other))?;
     match asker.ask_few(alloc, setting, &limits)? {
-        Answer::Never => Ok(Both::Never),
-        Answer::Open => Ok(Both::Open),
-        Answer::Orders(order) => {
+        LimitsAnswer::Never => Ok(Both::Never),
+        LimitsAnswer::Open => Ok(Both::Open),
+        LimitsAnswer::Orders(order) => {
             let is_kept = keeps(alloc, setting, &limits, order)?;
             if is_kept {
                 Ok(Both::Kept)

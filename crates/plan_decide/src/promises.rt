@@ -15,7 +15,7 @@ use crate::pairs::add_pairs;
 use crate::setting::Setting;
 use crate::standing::{Standing, standings};
 use arc_choice::Choose;
-use plan_limits::Answer;
+use plan_limits::LimitsAnswer;
 use shop_base::{JobNo, Moment, Planned};
 use std::alloc::{AllocError, Global};
 
@@ -83,9 +83,9 @@ fn ask_promises<P: Planned, C: Choose, W: Watch>(
 {
     let limits = limits_for(alloc, setting, Asked::All)?;
     match asker.ask_limits(alloc, setting, &limits)? {
-        Answer::Orders(order) => Ok(Reply::Orders(order)),
-        Answer::Open => Ok(Reply::Open),
-        Answer::Never => exclusions(alloc, setting, asker, standings, limits),
+        LimitsAnswer::Orders(order) => Ok(Reply::Orders(order)),
+        LimitsAnswer::Open => Ok(Reply::Open),
+        LimitsAnswer::Never => exclusions(alloc, setting, asker, standings, limits),
     }
 }
 

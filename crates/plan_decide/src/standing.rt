@@ -11,7 +11,7 @@ use crate::asked::{Asked, limits_for, promise_to};
 use crate::asker::{Asker, Watch};
 use crate::setting::{Setting, bound_of_job};
 use arc_choice::Choose;
-use plan_limits::Answer;
+use plan_limits::LimitsAnswer;
 use shop_base::{JobNo, Planned};
 use std::alloc::{AllocError, Global};
 
@@ -88,7 +88,7 @@ fn doubted<P: Planned, C: Choose, W: Watch>(
     }
     let limits = limits_for(alloc, setting, Asked::Both(job, job))?;
     match asker.ask_few(alloc, setting, &limits)? {
-        Answer::Never => Ok(Standing::Late),
+        LimitsAnswer::Never => Ok(Standing::Late),
         _ => Ok(Standing::Doubt),
     }
 }

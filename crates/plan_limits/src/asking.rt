@@ -15,7 +15,7 @@ use std::alloc::{AllocError, Global};
 
 /// What a question about limits is answered by.
 #[derive(Debug, Drop)]
-pub enum Answer {
+pub enum LimitsAnswer {
     /// No plan of the shop with these releases and cleaning times has all jobs that are asked for out by their limits.
     Never,
     /// An order for each machine, by which there may be such a plan: whoever asks shapes the plan and judges it. Jobs
@@ -41,7 +41,7 @@ pub fn ask<P: Planned, C: Choose>(
     limits: &[Option<Moment>],
     chooser: &mut C,
     choices: u64,
-) -> Result<Answer, AllocError>
+) -> Result<LimitsAnswer, AllocError>
     requires count { length limits.now ≡ jobs cell.now.plan }
     requires in_range { present ≤ MAX_MOMENT }
     ensures { IfOk result (OnAnsweredNever (NoPlanKeepsFrom (stage_of cell.now.plan cell.now.cell present) limits.now)) }
@@ -50,21 +50,21 @@ pub fn ask<P: Planned, C: Choose>(
     cleanings_in_range(cell);
     let nodes = asked_nodes(alloc, cell, limits)?;
     if nodes.len() > MAX_NODES {
-        return Ok(Answer::Open);
+        return Ok(LimitsAnswer::Open);
     }
     let question = question_of(alloc, cell, present, limits, &nodes)?;
     if question.pairs.len() > MAX_PAIRS {
         drop(question);
-        return Ok(Answer::Open);
+        return Ok(LimitsAnswer::Open);
     }
     let outcome = explore(alloc, &question, chooser, choices);
     drop(question);
     match outcome? {
-        Outcome::Never => Ok(Answer::Never),
+        Outcome::Never => Ok(LimitsAnswer::Never),
         Outcome::Chosen(heads) => {
             let orders = orders_by(alloc, cell, limits, &nodes, &heads)?;
-            Ok(Answer::Orders(orders))
+            Ok(LimitsAnswer::Orders(orders))
         }
-        Outcome::Open => Ok(Answer::Open),
+        Outcome::Open => Ok(LimitsAnswer::Open),
     }
 }

@@ -11,4 +11,4 @@ mod orders;
 mod pairs;
 mod questions;
 
-pub use asking::{Answer, ask};
+pub use asking::{LimitsAnswer, ask};
