@@ -8,7 +8,7 @@ use Rattle.command_answers.specs.declared.command_fault.CommandFault.{CommandFau
 use Rattle.command_answers.specs.declared.command_fault.CommandFault.TheVariants.{Instance, Plan, Names, Read, Write, InputTooLong, Log, LogInUse, Memory}
 use Rattle.command_answers.specs.Instances.{IsInstanceRefusal}
 use Rattle.command_answers.specs.Plans.{IsRightOfBoth, IsPlanRefusal}
-use Rattle.command_answers.specs.Readings.{AreTextsAnswered}
+use Rattle.command_answers.specs.Parsed.{AreTextsAnswered}
 use Rattle.command_answers.specs.Statuses.{command_status_of}
 use Rattle.cellplan_c.specs.Calls.{IsPut, Answers, IsTextFaultReport, IsTextsReport, AreTextsReported}
 use Rattle.cellplan_c.specs.FaultsWithoutLine.{HasNoLine}

@@ -13,7 +13,7 @@ use Rattle.command_answers.specs.declared.loading.Loaded.{Loaded}
 use Rattle.command_answers.specs.declared.loading.Loaded.TheVariants.{NotShaped, Judged}
 use Rattle.command_answers.specs.Checks.{IsLoaded}
 use Rattle.command_answers.specs.Plans.{BothParse}
-use Rattle.command_answers.specs.Readings.{AreTextsAnswered}
+use Rattle.command_answers.specs.Parsed.{AreTextsAnswered}
 use Rattle.cellplan_c.specs.Calls.{IsEarliestLeaving, IsStarted, loaded_status, IsStatusOfBoth, IsStatusOfPlan}
 use Rattle.cellplan_c.specs.Begun.{IsControllerOf}
 use Rattle.cellplan_c.specs.Held.{Held}

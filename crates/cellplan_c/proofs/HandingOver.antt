@@ -8,7 +8,7 @@ use Rattle.shop_base.proofs.Cycles.{ranks_exclude_cycle}
 use Rattle.alt_graph.specs.Solved.{HasCycle}
 use Rattle.alt_graph.specs.Times.{rank_of}
 use Rattle.command_answers.specs.declared.command_fault.CommandFault.{CommandFault}
-use Rattle.command_answers.specs.Readings.{AreTextsAnswered}
+use Rattle.command_answers.specs.Parsed.{AreTextsAnswered}
 use Rattle.command_answers.specs.Shapes.{IsShapedOrNot}
 use Rattle.command_answers.specs.Statuses.{command_status_of}
 use Rattle.cell_tables.specs.declared.present_fault.PresentFault.TheVariants.{Past, TooLarge}

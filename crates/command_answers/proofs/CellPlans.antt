@@ -9,7 +9,7 @@ use Rattle.command_answers.specs.declared.command_fault.CommandFault.{CommandFau
 use Rattle.command_answers.specs.declared.loading.Loaded.{Loaded}
 use Rattle.command_answers.specs.Checks.{accepted_in}
 use Rattle.command_answers.specs.declared.command_fault.CommandFault.TheVariants.{Memory}
-use Rattle.command_answers.specs.{Readings.IsInstanceRead, Steps.IsOrMemory}
+use Rattle.command_answers.specs.{Parsed.IsInstanceRead, Steps.IsOrMemory}
 use Rattle.command_answers.specs.Cells.{AddsCell, AfterPlan, IsAdded, IsReadBefore, IsShopRead, LoadsFor, LoadsOne, LoadsEach}
 
 -- what the plans that are left come to, all plans come to

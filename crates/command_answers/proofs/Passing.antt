@@ -15,7 +15,7 @@ use Rattle.command_answers.specs.Instances.{Holds, IsInstanceRefusal, instance_c
 use Rattle.command_answers.specs.Steps.{AndThen, IsOrMemory, Then}
 use Rattle.command_answers.specs.Plans.{IsPlanRefusal, IsRightOfBoth, plan_command_fault}
 use Rattle.command_answers.specs.Naming.{IsNamesRefusal, names_command_fault}
-use Rattle.command_answers.specs.Readings.{IsInstanceRead, IsPlanRead, AreTextsAnswered}
+use Rattle.command_answers.specs.Parsed.{IsInstanceRead, IsPlanRead, AreTextsAnswered}
 
 -- an answer that passes on that memory ran out holds to every property
 pub passed_memory : {A : Type 0} (P : A → Type 0) (answer : Result A CommandFault) (fault : CommandFault) → fault ≡ Memory → IsErrAnd answer (λ passed. passed ≡ fault) → Holds answer P

@@ -11,7 +11,7 @@ use Rattle.command_answers.specs.declared.command_fault.CommandFault.TheVariants
 use Rattle.command_answers.specs.declared.loading.Loaded.{Loaded}
 use Rattle.command_answers.specs.Steps.{Then, Concludes, IsOrMemory}
 use Rattle.command_answers.specs.Texts.{Asks}
-use Rattle.command_answers.specs.Readings.{IsInstanceRead}
+use Rattle.command_answers.specs.Parsed.{IsInstanceRead}
 use Rattle.command_answers.specs.Checks.{IsLineOf, IsLoaded, accepted_in}
 use Rattle.command_answers.specs.Commands.{ReadsPlan}
 

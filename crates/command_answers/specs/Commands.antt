@@ -16,7 +16,7 @@ use Rattle.command_answers.specs.declared.loading.Loaded.{Loaded}
 use Rattle.command_answers.specs.Steps.{Then, Concludes, IsOrMemory}
 use Rattle.command_answers.specs.Texts.{Asks}
 use Rattle.command_answers.specs.Naming.{ReadsNames}
-use Rattle.command_answers.specs.Readings.{IsInstanceRead, IsPlanRead, AreFactsAnswered}
+use Rattle.command_answers.specs.Parsed.{IsInstanceRead, IsPlanRead, AreFactsAnswered}
 use Rattle.command_answers.specs.Checks.{IsLoaded}
 use Rattle.command_answers.specs.AskedJobs.{IsNoJobLine}
 use Rattle.command_answers.specs.Serial.{serially}

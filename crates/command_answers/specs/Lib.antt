@@ -1,12 +1,12 @@
 -- Reached by public clauses: to be read and believed.
 pub mod Statuses
 pub mod Texts
-pub mod Reading
+pub mod FileFaults
 pub mod Steps
 pub mod Instances
 pub mod Facts
 pub mod Plans
-pub mod Readings
+pub mod Parsed
 pub mod Naming
 pub mod Shapes
 pub mod AskedJobs

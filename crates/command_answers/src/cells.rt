@@ -12,7 +12,7 @@ use crate::command_fault::CommandFault;
 use crate::inputs::ParsedInputs;
 use crate::lines::push_fact;
 use crate::loading::{Loaded, judged};
-use crate::readings::{load_instance, plan};
+use crate::parsing::{load_instance, plan};
 use crate::texts::Texts;
 use cell_control::LeanPlan;
 use plan_verifier::Verified;

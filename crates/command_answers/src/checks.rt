@@ -2,7 +2,7 @@
 
 ghost use Rattle.std.specs.Prelude.{◌≡◌, IfOk};
 ghost use Rattle.std.specs.Option.{option_copied};
-ghost use Rattle.command_answers.specs.Readings.{AreTextsAnswered};
+ghost use Rattle.command_answers.specs.Parsed.{AreTextsAnswered};
 ghost use Rattle.command_answers.specs.Checks.{IsCheckLine, IsLineOf, IsLineOfVerdict, verdict_status};
 
 use crate::answer::{Answer, Answered, GOOD, REFUSED};

@@ -1,6 +1,6 @@
 ghost use Rattle.std.specs.Prelude.{◌≡◌};
 ghost use Rattle.command_answers.specs.declared.command_fault.CommandFault.TheVariants.{Memory};
-ghost use Rattle.command_answers.specs.Reading.{IsFaultOfSystem};
+ghost use Rattle.command_answers.specs.FileFaults.{IsFaultOfSystem};
 ghost use Rattle.command_answers.specs.Instances.{instance_command_fault};
 ghost use Rattle.command_answers.specs.Plans.{plan_command_fault};
 ghost use Rattle.command_answers.specs.Naming.{names_command_fault};

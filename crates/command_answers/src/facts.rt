@@ -3,12 +3,12 @@
 ghost use Rattle.std.specs.Prelude.{◌≡◌, IfOk};
 ghost use Rattle.std.specs.Option.{option_copied};
 ghost use Rattle.command_answers.specs.Facts.{facts_line};
-ghost use Rattle.command_answers.specs.Readings.{AreFactsAnswered};
+ghost use Rattle.command_answers.specs.Parsed.{AreFactsAnswered};
 ghost use Rattle.command_answers.specs.Commands.{RunsFacts};
 
 use crate::answer::{Answer, Answered, GOOD};
 use crate::lines::push_fact;
-use crate::readings::load_instance;
+use crate::parsing::load_instance;
 use crate::texts::Texts;
 use shop_base::Shop;
 use std::alloc::{AllocError, Global};

@@ -8,7 +8,7 @@ ghost use Rattle.command_answers.specs.Serial.{serially};
 ghost use Rattle.command_answers.specs.Commands.{ReadsBoth, Shapes};
 
 use crate::answer::CommandResult;
-use crate::readings::{instance, plan};
+use crate::parsing::{instance, plan};
 use crate::texts::Texts;
 use plan_seek::serial_orders;
 use shop_base::{JobNo, Moment, Plan, ShapeFault, Shaped, Shop, shape};

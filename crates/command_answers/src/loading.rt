@@ -3,7 +3,7 @@
 ghost use Rattle.std.specs.Prelude.{◌≡◌, IsOk};
 ghost use Rattle.std.specs.Option.{option_copied};
 ghost use Rattle.shop_base.specs.Plan.{IsWellShaped};
-ghost use Rattle.command_answers.specs.Readings.{AreTextsAnswered};
+ghost use Rattle.command_answers.specs.Parsed.{AreTextsAnswered};
 ghost use Rattle.command_answers.specs.Checks.{IsLoaded, accepted_in};
 ghost use Rattle.command_answers.specs.Shapes.{IsShapedOrNot};
 ghost use Rattle.command_answers.specs.Steps.{IsOrMemory};
@@ -12,7 +12,7 @@ ghost use Rattle.command_answers.specs.Commands.{Loads};
 use crate::answer::CommandResult;
 use crate::command_fault::CommandFault;
 use crate::inputs::{InputPaths, ParsedInputs, read_inputs};
-use crate::readings::{load_instance, load_plan};
+use crate::parsing::{load_instance, load_plan};
 use crate::texts::Texts;
 use plan_verifier::{Verdict, Verified, verify};
 use shop_base::{ShapeFault, Shaped};

@@ -14,7 +14,7 @@ use crate::answer::{Answer, Answered, GOOD, REFUSED};
 use crate::command_fault::{CommandFault, Unrevised};
 use crate::inputs::{InputPaths, ParsedInputs};
 use crate::lines::document_answer;
-use crate::readings::{instance, plan};
+use crate::parsing::{instance, plan};
 use crate::rest_improves::cycle_answer;
 use crate::rests::run_fault_answer;
 use crate::shapes::not_shaped_answer;

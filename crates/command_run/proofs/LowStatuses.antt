@@ -48,7 +48,7 @@ use Rattle.command_answers.specs.declared.command_fault.CommandFault.{CommandFau
 use Rattle.command_answers.specs.declared.loading.Loaded.{Loaded}
 use Rattle.command_answers.specs.declared.loading.Loaded.TheVariants.{NotShaped, Judged}
 use Rattle.command_answers.specs.Steps.{Then, AndThen, Concludes, IsOrMemory}
-use Rattle.command_answers.specs.Readings.{AreFactsAnswered}
+use Rattle.command_answers.specs.Parsed.{AreFactsAnswered}
 use Rattle.command_answers.specs.Shapes.{IsShapeLine, IsNotShapedLine}
 use Rattle.command_answers.specs.Checks.{IsCheckLine, IsLineOf, accepted_in, verdict_status}
 use Rattle.command_answers.specs.AskedJobs.{IsNoJobLine}

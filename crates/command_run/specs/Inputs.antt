@@ -6,7 +6,7 @@ use Rattle.byte_streams.specs.declared.rooms.TheConstants.{MAX_PIECE}
 use Rattle.command_answers.specs.declared.answer.Answer.{Answer}
 use Rattle.command_answers.specs.declared.command_fault.CommandFault.{CommandFault}
 use Rattle.command_answers.specs.declared.command_fault.CommandFault.TheVariants.{Read, InputTooLong, Memory}
-use Rattle.command_answers.specs.Readings.{AreFactsAnswered}
+use Rattle.command_answers.specs.Parsed.{AreFactsAnswered}
 use Rattle.command_answers.specs.Steps.{Then, Concludes}
 use Rattle.command_run.specs.Streams.{Input}
 

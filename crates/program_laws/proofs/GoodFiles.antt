@@ -43,7 +43,7 @@ use Rattle.command_answers.specs.Instances.{ParsesAs}
 use Rattle.command_answers.specs.Facts.{AreFacts}
 use Rattle.command_answers.specs.Steps.{Then, AndThen, Concludes, IsOrMemory}
 use Rattle.command_answers.specs.Texts.{Asks}
-use Rattle.command_answers.specs.Readings.{IsInstanceRead, IsPlanRead, AreFactsAnswered}
+use Rattle.command_answers.specs.Parsed.{IsInstanceRead, IsPlanRead, AreFactsAnswered}
 use Rattle.command_answers.specs.Shapes.{IsNotShapedLine, IsShapedOrNot}
 use Rattle.command_answers.specs.Checks.{IsLoaded, IsCheckLine}
 use Rattle.command_answers.specs.Search.{IsSearchAnswer}

@@ -16,7 +16,7 @@ use Rattle.command_answers.specs.declared.loading.Loaded.{Loaded}
 use Rattle.command_answers.specs.declared.loading.Loaded.TheVariants.{NotShaped, Judged}
 use Rattle.command_answers.specs.Steps.{Then, AndThen, Concludes, IsOrMemory}
 use Rattle.command_answers.specs.Texts.{Asks}
-use Rattle.command_answers.specs.Readings.{IsInstanceRead, IsPlanRead}
+use Rattle.command_answers.specs.Parsed.{IsInstanceRead, IsPlanRead}
 use Rattle.command_answers.specs.Checks.{IsLoaded, accepted_in}
 use Rattle.command_answers.specs.Commands.{ReadsPlan}
 use Rattle.command_answers.specs.Cells.{AfterPlan, IsCellLine, LoadsEach}

@@ -7,7 +7,7 @@ use Rattle.command_answers.specs.declared.answer.Answer.{Answer}
 use Rattle.command_answers.specs.declared.command_fault.CommandFault.{CommandFault}
 use Rattle.command_answers.specs.declared.command_fault.CommandFault.TheVariants.{Instance, Plan, Names, Read, Write, InputTooLong, Log, LogInUse, Memory}
 use Rattle.command_answers.specs.Instances.{ParsesAs}
-use Rattle.command_answers.specs.Readings.{AreFactsAnswered}
+use Rattle.command_answers.specs.Parsed.{AreFactsAnswered}
 use Rattle.command_answers.specs.Steps.{AndThen, Concludes}
 use Rattle.command_run.specs.Streams.{Input}
 use Rattle.command_run.specs.Inputs.{IsInputRead, RunsInput}

@@ -14,7 +14,7 @@ use Rattle.command_answers.specs.declared.command_fault.CommandFault.TheVariants
 use Rattle.command_answers.specs.Instances.{IsFirstInstanceFault, IsInstanceRefusal}
 use Rattle.command_answers.specs.Steps.{AndThen, Concludes}
 use Rattle.command_answers.specs.Texts.{Asks}
-use Rattle.command_answers.specs.Readings.{IsInstanceRead, AreFactsAnswered}
+use Rattle.command_answers.specs.Parsed.{IsInstanceRead, AreFactsAnswered}
 use Rattle.command_answers.specs.Commands.{InputPaths, RunPaths, ReadsInstance, ReadsBoth, WithBoth, RunsFacts}
 use Rattle.command_answers.specs.Cells.{LoadsEach}
 use Rattle.command_run.specs.Streams.{Streams}

@@ -1,7 +1,7 @@
 use Rattle.std.proofs.Common.{refl}
 use Rattle.command_answers.specs.declared.command_fault.CommandFault.TheVariants.{Memory}
 use Rattle.command_answers.specs.Checks.{IsLoaded, IsCheckLine}
-use Rattle.command_answers.specs.Readings.{AreTextsAnswered}
+use Rattle.command_answers.specs.Parsed.{AreTextsAnswered}
 use Rattle.command_answers.specs.Steps.{IsOrMemory}
 use Rattle.command_answers.proofs.Passing.{at_fault, passed_on, next_answered}
 use Rattle.command_answers.proofs.CheckLines.{line_of_loaded}

@@ -2,7 +2,7 @@ use Rattle.std.proofs.Common.{refl}
 use Rattle.command_answers.specs.declared.command_fault.CommandFault.TheVariants.{Memory}
 use Rattle.command_answers.specs.Checks.{IsLoaded}
 use Rattle.command_answers.specs.Explains.{IsExplanation}
-use Rattle.command_answers.specs.Readings.{AreTextsAnswered}
+use Rattle.command_answers.specs.Parsed.{AreTextsAnswered}
 use Rattle.command_answers.specs.Steps.{IsOrMemory}
 use Rattle.command_answers.proofs.Passing.{at_fault, passed_on, next_answered}
 use Rattle.command_answers.proofs.CheckLines.{loaded_evidence, explanation_of_loaded}

@@ -1,5 +1,5 @@
 use Rattle.command_answers.specs.Checks.{IsLoaded}
-use Rattle.command_answers.specs.Readings.{AreTextsAnswered}
+use Rattle.command_answers.specs.Parsed.{AreTextsAnswered}
 use Rattle.command_answers.proofs.Passing.{at_fault, refused_instance, refused_plan, texts_answered}
 use Rattle.command_answers.proofs.loading.load.Goals as goal
 

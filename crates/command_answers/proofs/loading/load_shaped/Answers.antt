@@ -3,7 +3,7 @@ use Rattle.shop_base.specs.declared.shape_fault.ShapeFault.{ShapeFault}
 use Rattle.shop_base.specs.Plan.{PlannedShop, IsWellShaped}
 use Rattle.shop_base.specs.ShapeFault.{IsFirstShapeFault}
 use Rattle.command_answers.specs.Shapes.{IsShapedOrNot}
-use Rattle.command_answers.specs.Readings.{AreTextsAnswered}
+use Rattle.command_answers.specs.Parsed.{AreTextsAnswered}
 use Rattle.command_answers.proofs.Passing.{at_fault, refused_instance, refused_plan, texts_answered}
 use Rattle.command_answers.proofs.loading.load_shaped.Goals as goal
 

@@ -1,7 +1,7 @@
 //! Instance and plan texts, read for the commands.
 
 ghost use Rattle.std.specs.Option.{option_copied};
-ghost use Rattle.command_answers.specs.Readings.{IsInstanceRead, IsPlanRead};
+ghost use Rattle.command_answers.specs.Parsed.{IsInstanceRead, IsPlanRead};
 ghost use Rattle.command_answers.specs.Commands.{ReadsInstance, ReadsPlan};
 
 use crate::answer::CommandResult;

@@ -1,7 +1,7 @@
 use Rattle.std.proofs.Common.{rules, ap}
 use Rattle.command_answers.specs.Instances.{instance_command_fault}
 use Rattle.command_answers.proofs.Passing.{passed_memory, passed_instance}
-use Rattle.command_answers.proofs.readings.load_instance.Goals as goal
+use Rattle.command_answers.proofs.parsing.load_instance.Goals as goal
 
 pub returns-in_err-read_from_collection-in-Some : goal.returns-in_err-read_from_collection-in-Some
 returns-in_err-read_from_collection-in-Some c = record {

@@ -1,5 +1,5 @@
 use Rattle.std.proofs.Common.{rules}
-use Rattle.command_answers.proofs.reading.whole_of.Goals as goal
+use Rattle.command_answers.proofs.whole_file.whole_of.Goals as goal
 
 pub returns-in-Ok-2-clause-within : goal.returns-in-Ok-2-clause-within
 returns-in-Ok-2-clause-within c = search rules depth 2

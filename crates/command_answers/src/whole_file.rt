@@ -2,7 +2,7 @@
 
 ghost use Rattle.std.specs.Prelude.{◌≡◌, ◌<◌, ◌≤◌, IfOk, IfErr, IfSome, IsErrAnd, vec_len};
 ghost use Rattle.command_answers.specs.declared.command_fault.CommandFault.TheVariants.{InputTooLong};
-ghost use Rattle.command_answers.specs.Reading.{IsFaultOfSystem};
+ghost use Rattle.command_answers.specs.FileFaults.{IsFaultOfSystem};
 ghost use Rattle.command_answers.specs.Texts.{AreTooMany, IsFileFault};
 
 use crate::answer::CommandResult;

@@ -1,7 +1,7 @@
 use Rattle.std.proofs.Common.{rules, ap}
 use Rattle.command_answers.specs.Plans.{plan_command_fault}
 use Rattle.command_answers.proofs.Passing.{passed_memory, passed_plan}
-use Rattle.command_answers.proofs.readings.load_plan.Goals as goal
+use Rattle.command_answers.proofs.parsing.load_plan.Goals as goal
 
 pub returns-in_err-read_plan : goal.returns-in_err-read_plan
 returns-in_err-read_plan c = record {

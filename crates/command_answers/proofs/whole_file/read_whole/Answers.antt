@@ -4,11 +4,11 @@ use Rattle.std.specs.declared.io.Error.{Error}
 use Rattle.std.proofs.lemmas.List.{take_all, length-take-le}
 use Rattle.std.proofs.lemmas.Bool.{cases_lt}
 use Rattle.text_lines.specs.declared.limits.TheConstants.{MAX_INPUT}
-use Rattle.command_answers.specs.Reading.{IsFaultOfSystem}
+use Rattle.command_answers.specs.FileFaults.{IsFaultOfSystem}
 use Rattle.command_answers.specs.declared.command_fault.CommandFault.{CommandFault}
 use Rattle.command_answers.specs.declared.command_fault.CommandFault.TheVariants.{InputTooLong}
 use Rattle.command_answers.specs.Texts.{IsFileFault}
-use Rattle.command_answers.proofs.reading.read_whole.Goals as goal
+use Rattle.command_answers.proofs.whole_file.read_whole.Goals as goal
 
 -- what was read of all that there is, up to a limit that it stays below, is all
 whole_below : (given : Option (List ℕ)) (limit : ℕ) (start items : List ℕ) → start ≡ []
