@@ -2,7 +2,7 @@
 
 ghost use Rattle.std.specs.Prelude.{OnOk, IfOk, IfErr};
 ghost use Rattle.cell_tables.specs.Claims.{claimed};
-ghost use Rattle.cell_control.specs.Judged.{IsJudged};
+ghost use Rattle.cell_control.specs.Examined.{IsExamined};
 ghost use Rattle.cell_control.specs.Claims.{CanClaim, IsClaimReason, AnswersClaim};
 
 use crate::ack::Ack;
@@ -16,19 +16,19 @@ use cell_tables::Claim;
 use shop_base::{JobNo, MachineNo, Moment};
 
 impl<P: Timed, D: Dues> Core<P, D> {
-    /// Judges what is claimed to have ended, as [`Core::judge`] does a report. Nothing changes.
+    /// Examines what is claimed to have ended, as [`Core::examine`] does a report. Nothing changes.
     #[inline(always)]
-    pub fn judge_claim(&self, claim: Claim) -> Result<Possible, ReportFault>
+    pub fn examine_claim(&self, claim: Claim) -> Result<Possible, ReportFault>
         ensures possible { OnOk result (CanClaim self.now.planned self.now.cell claim) }
-        ensures judged { IfOk result
-            (IsJudged self.now.planned self.now.cell (claimed self.now.planned claim)) }
+        ensures examined { IfOk result
+            (IsExamined self.now.planned self.now.cell (claimed self.now.planned claim)) }
         ensures first_reason { IfErr result (IsClaimReason self.now.planned self.now.cell claim) }
     {
         // Called for its clause alone: the cell is sound.
         let _plan = self.shaped();
         let cell = &self.cell;
         let report = check_claim(cell, claim)?;
-        Ok(self.judged(report))
+        Ok(self.examined(report))
     }
 
     /// Takes what is claimed to have ended. If it is possible it is accepted as its report, as [`Core::report`] does;
@@ -40,7 +40,7 @@ impl<P: Timed, D: Dues> Core<P, D> {
     {
         // Called for its clause alone: the cell is sound.
         let _plan = self.shaped();
-        let possible = self.judge_claim(claim)?;
+        let possible = self.examine_claim(claim)?;
         Ok(self.accept(possible))
     }
 

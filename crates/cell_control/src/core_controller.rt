@@ -4,7 +4,7 @@ ghost use Rattle.shop_base.specs.ReportsLeft.{reports_left};
 ghost use Rattle.alt_graph.specs.Times.{earliest_of};
 ghost use Rattle.cell_tables.specs.Readings.{IsCleanedFor, IsCleanedForStep, IsCurrentStep};
 ghost use Rattle.cell_control.specs.{Control.IsAnswered, Control.IfEndsNow, Control.IsControl, Promises.IsCalled};
-ghost use Rattle.cell_control.specs.{Fields.begun_with, Fields.IsRoomFor, Judged.IsJudged, Judged.IsPossible};
+ghost use Rattle.cell_control.specs.{Fields.begun_with, Fields.IsRoomFor, Examined.IsExamined, Examined.IsPossible};
 ghost use Rattle.cell_control.specs.HandedOver.{IsRestAtFault};
 ghost use Rattle.cell_control.specs.Reports.{IsFirstReason, IsOnlyReason};
 ghost use Rattle.cell_control.specs.Readings.{IsPhaseOf, IsJobOn, IsDueOf, IsDueOfCleaning, IsOnTime};
@@ -92,29 +92,29 @@ impl<P: Timed, D: Dues> Core<P, D> {
         ensures called { (es : List Event) × IsCalled self.old report es self.new }
         ensures never_refused { IfEndsNow self.old report (IsOk result) }
     {
-        let possible = self.judge(report)?;
+        let possible = self.examine(report)?;
         Ok(self.accept(possible))
     }
 
-    /// Judges a report: it is possible, and late or not, or this is the first reason for which it isn't possible.
+    /// Examines a report: it is possible, and late or not, or this is the first reason for which it isn't possible.
     /// Nothing changes.
     #[inline(always)]
-    pub fn judge(&self, report: Report) -> Result<Possible, ReportFault>
+    pub fn examine(&self, report: Report) -> Result<Possible, ReportFault>
         ensures possible { IsOk result ↔ CanReport self.now.planned self.now.cell report }
-        ensures judged { IfOk result (IsJudged self.now.planned self.now.cell report) }
+        ensures examined { IfOk result (IsExamined self.now.planned self.now.cell report) }
         ensures first_reason { IfErr result (IsFirstReason self.now.planned self.now.cell report) }
         ensures never_refused { IfEndsNow self.now report (IsOk result) }
     {
         let cell = &self.cell;
         check_report(cell, report)?;
-        Ok(self.judged(report))
+        Ok(self.examined(report))
     }
 
-    /// What a possible report is judged to be.
+    /// What a possible report is examined to be.
     #[inline(always)]
-    pub(crate) fn judged(&self, report: Report) -> Possible
+    pub(crate) fn examined(&self, report: Report) -> Possible
         requires { CanReport self.now.planned self.now.cell report }
-        ensures { IsJudged self.now.planned self.now.cell report result }
+        ensures { IsExamined self.now.planned self.now.cell report result }
     {
         Possible {
             report,
@@ -122,7 +122,7 @@ impl<P: Timed, D: Dues> Core<P, D> {
         }
     }
 
-    /// Accepts a report that was judged possible in this cell, as [`Core::report`] does.
+    /// Accepts a report that was found possible in this cell, as [`Core::report`] does.
     pub fn accept(&mut self, possible: Possible) -> Ack
         requires { IsPossible self.old.planned self.old.cell possible }
         ensures answered { IsAnswered self.old possible.report result self.new }

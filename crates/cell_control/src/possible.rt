@@ -3,8 +3,8 @@ ghost use Rattle.std.specs.Prelude.{◌≡◌};
 use shop_base::Report;
 use std::marker::Model;
 
-/// A report that was judged possible in the cell of a controller, and late there or not. Only [`crate::Core::judge`]
-/// and [`crate::Core::judge_claim`] make one, and [`crate::Core::accept`] accepts it.
+/// A report that was found possible in the cell of a controller, and late there or not. Only [`crate::Core::examine`]
+/// and [`crate::Core::examine_claim`] make one, and [`crate::Core::accept`] accepts it.
 #[derive(Debug, Drop)]
 pub struct Possible {
     pub(crate) report: Report,
@@ -12,11 +12,11 @@ pub struct Possible {
 }
 
 impl Model for Possible {
-    ghost use Rattle.cell_control.specs.Judged.{JudgedReport, judged_so};
+    ghost use Rattle.cell_control.specs.Examined.{ExaminedReport, examined_so};
 
-    ghost Value = { JudgedReport };
+    ghost Value = { ExaminedReport };
 
-    ghost view = { λ j. judged_so j.report j.late };
+    ghost view = { λ j. examined_so j.report j.late };
 }
 
 impl Possible {

@@ -46,12 +46,12 @@ acceptance_replies protocol prefix v new number request acceptance ack to answer
     let claim = to.claim in
     let own = claimed v.planned claim in
     let late = acceptance.possible.late in
-    let is = to.judged.0 in
-    let late_is = subst (λ (r : Report). (late ≡ false) ↔ IsPunctual v.planned v.cell r) is to.judged.1.late in
+    let is = to.examined.0 in
+    let late_is = subst (λ (r : Report). (late ≡ false) ↔ IsPunctual v.planned v.cell r) is to.examined.1.late in
     let by_own = accepts protocol prefix v new claim late ack to.admissible late_is (subst (λ (r : Report). IsAnswered v r ack new) is answered) in
     let with_overdue = subst (λ (o : Option Overdue). AcceptedBy protocol prefix v claim new (reported_lines protocol prefix new own late o)) (sym to.overdue_is) by_own in
-    let as_judged = subst (λ (r : Report). IsClaimAccepted v.planned protocol prefix v.cell claim (reported_lines protocol prefix new r late acceptance.overdue) (accepted_events new (Some r)) new.cell) (sym is) with_overdue in
-    subst (λ (q : Request). RepliesBy protocol prefix v number q (Some acceptance.possible.report) new (accepted_lines protocol prefix new acceptance)) (sym to.asked) (inr as_judged)
+    let as_examined = subst (λ (r : Report). IsClaimAccepted v.planned protocol prefix v.cell claim (reported_lines protocol prefix new r late acceptance.overdue) (accepted_events new (Some r)) new.cell) (sym is) with_overdue in
+    subst (λ (q : Request). RepliesBy protocol prefix v number q (Some acceptance.possible.report) new (accepted_lines protocol prefix new acceptance)) (sym to.asked) (inr as_examined)
 
 -- the plan stays
 pub plan_after : (v : Control) (accepted : Option Report) (new : Control) → HasAccepted v accepted new → verified_in new ≡ verified_in v

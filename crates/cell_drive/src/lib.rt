@@ -7,8 +7,8 @@
 #![tactic(auto)]
 
 mod begin;
+mod examining;
 mod hub;
-mod judging;
 mod lateness;
 mod protocol;
 mod recovery;

@@ -7,7 +7,7 @@ ghost use Rattle.byte_streams.specs.Lent.{WroteTo};
 ghost use Rattle.cell_drive.specs.{ProtocolText.lateness_part, ProtocolText.printed_overdue};
 ghost use Rattle.cell_drive.specs.{Replay.replay_line, Replay.replay_lines};
 
-use crate::judging::printed_overdue;
+use crate::examining::printed_overdue;
 use crate::protocol::Protocol;
 use crate::replies::{put_event, put_lateness};
 use byte_streams::{Sink, WriteFault};

@@ -2,14 +2,14 @@
 
 ghost use Rattle.std.specs.Prelude.{◌≡◌, ◌≤◌, None, Some, length, true, IfOk, IfErr, OnOk};
 ghost use Rattle.byte_streams.specs.Lent.{WroteTo, WroteOneTo};
-ghost use Rattle.cell_control.specs.{declared.ack.Ack.Ack, Control.IsAnswered, Control.IsControl, Judged.IsPossible};
+ghost use Rattle.cell_control.specs.{declared.ack.Ack.Ack, Control.IsAnswered, Control.IsControl, Examined.IsPossible};
 ghost use Rattle.event_lines.specs.{declared.requests.Request.TheVariants.Claim as ClaimRequest};
 ghost use Rattle.cell_drive.specs.{declared.replies.TheConstants.MAX_PREFIX, Refusals.IsRefusal};
 ghost use Rattle.cell_drive.specs.ProtocolText.{refusal_prefix};
 ghost use Rattle.cell_drive.specs.Replies.{RepliesBy, HasAccepted, RefusedBy, reported_lines};
 ghost use Rattle.cell_drive.specs.Acceptances.{IsToAccept, accepted_lines};
 
-use crate::judging::{judge, printed_overdue, prints_end};
+use crate::examining::{examine, printed_overdue, prints_end};
 use crate::protocol::Protocol;
 use crate::refusals::{Refusal, refusal_detail};
 use crate::replies::{put_accepted, put_refusal};
@@ -156,7 +156,7 @@ fn consider_claim<P: Timed, D: Dues, W: Sink>(
     ensures answered { IfErr result (λ written. WroteOneTo W.Sink written writer.old writer.new
         (RepliesBy protocol prefix.now controller.now number (ClaimRequest claim) None controller.now)) }
 {
-    match judge(protocol, controller, claim) {
+    match examine(protocol, controller, claim) {
         Ok(possible) => {
             let (late, report) = (possible.is_late(), possible.report());
             let overdue = printed_overdue(protocol, controller.work_cell(), late, report);

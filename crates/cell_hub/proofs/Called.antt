@@ -6,7 +6,7 @@ use Rattle.cell_tables.specs.declared.claim.Claim.{Claim, TheVariants.Report}
 use Rattle.slab.specs.Slab.{Slab, get, with_value, Updates}
 use Rattle.plan_verifier.specs.Accepted.{VerifiedPlan}
 use Rattle.cell_control.specs.{Control.{Control, IsAnswered, control_at_start}, Claims.IsClaimReason, declared.ack.Ack.Ack}
-use Rattle.cell_control.specs.Judged.{JudgedReport, IsPossible}
+use Rattle.cell_control.specs.Examined.{ExaminedReport, IsPossible}
 use Rattle.cell_control.proofs.ClaimReasons.{only_claim_reason}
 use Rattle.cell_hub.specs.{declared.slots.Ticket.Ticket, declared.slots.Placed.Placed, Hub.{HubState, cell_at}}
 use Rattle.cell_hub.specs.declared.hub_fault.HubFault.{HubFault, TheVariants.{NoSuchCell, SerialsSpent, Memory, Cell}}
@@ -95,25 +95,25 @@ there_not_none h t v is none = absurd (cc)
 pub same_content : (h : HubState) (t : Ticket) (v w : Control) → cell_at h t ≡ Some v → cell_at h t ≡ Some w → v ≡ w
 same_content h t v w is also = cc
 
--- a report that was judged possible in the ticket's cell was so whatever the next serial is
-pub possible_there : {P D : Type 0} (s : Slab (Placed P D)) (next : ℕ) (now : HubState) → hub_of s next ≡ now → (t : Ticket) (judged : JudgedReport) → IsPossibleAt now t judged → (n : ℕ) → IsPossibleAt (hub_of s n) t judged
-possible_there s next now seen t judged is n =
-    let there = subst (λ (h : HubState). IsPossibleAt h t judged) (sym seen) is in
+-- a report that was found possible in the ticket's cell was so whatever the next serial is
+pub possible_there : {P D : Type 0} (s : Slab (Placed P D)) (next : ℕ) (now : HubState) → hub_of s next ≡ now → (t : Ticket) (examined : ExaminedReport) → IsPossibleAt now t examined → (n : ℕ) → IsPossibleAt (hub_of s n) t examined
+possible_there s next now seen t examined is n =
+    let there = subst (λ (h : HubState). IsPossibleAt h t examined) (sym seen) is in
     record { control = there.control; cell = there.cell; possible = there.possible }
 
--- the slot of a ticket in whose cell a report was judged possible
-module _ {P D : Type 0} (s : Slab (Placed P D)) (t : Ticket) (judged : JudgedReport) (there : (n : ℕ) → IsPossibleAt (hub_of s n) t judged) where
+-- the slot of a ticket in whose cell a report was found possible
+module _ {P D : Type 0} (s : Slab (Placed P D)) (t : Ticket) (examined : ExaminedReport) (there : (n : ℕ) → IsPossibleAt (hub_of s n) t examined) where
   its_own : (placed : Placed P D) → Some placed ≡ get s t.slot → placed.serial ≡ t.serial
   its_own placed found = its_serial s t placed found (λ none. there_not_none (hub_of s 0) t (there 0).control (there 0).cell none)
 
-  pub possible_in : (placed : Placed P D) → Some placed ≡ get s t.slot → IsPossible placed.controller.planned placed.controller.cell judged
+  pub possible_in : (placed : Placed P D) → Some placed ≡ get s t.slot → IsPossible placed.controller.planned placed.controller.cell examined
   possible_in placed found =
-      subst (λ (v : Control). IsPossible v.planned v.cell judged)
+      subst (λ (v : Control). IsPossible v.planned v.cell examined)
       (same_content (hub_of s 0) t (there 0).control placed.controller (there 0).cell (stands_there s t placed found (its_own placed found) 0)) (there 0).possible
 
   pub not_empty : None ≡ get s t.slot → ⊥
   not_empty none = there_not_none (hub_of s 0) t (there 0).control (there 0).cell (none_there s t none 0)
 
-  pub accepts_there : (placed : Placed P D) (ack : Ack) (after : Control) → Some placed ≡ get s t.slot → IsAnswered placed.controller judged.report ack after → (next : ℕ)
-      → IsReported (hub_of s next) t judged.report ack (hub_of (with_value s t.slot (record placed { controller = after })) next)
-  accepts_there placed ack after found is next = reports_there s t placed judged.report ack after found (its_own placed found) is next
+  pub accepts_there : (placed : Placed P D) (ack : Ack) (after : Control) → Some placed ≡ get s t.slot → IsAnswered placed.controller examined.report ack after → (next : ℕ)
+      → IsReported (hub_of s next) t examined.report ack (hub_of (with_value s t.slot (record placed { controller = after })) next)
+  accepts_there placed ack after found is next = reports_there s t placed examined.report ack after found (its_own placed found) is next

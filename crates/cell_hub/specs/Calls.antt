@@ -7,7 +7,7 @@ use Rattle.cell_tables.specs.{declared.claim.Claim.Claim, declared.claim.Claim.T
 use Rattle.plan_verifier.specs.Accepted.{VerifiedPlan}
 use Rattle.cell_control.specs.{declared.ack.Ack.Ack, Control.Control, Control.control_at_start, Control.IsAnswered}
 use Rattle.cell_control.specs.Claims.{CanClaim, IsClaimReason}
-use Rattle.cell_control.specs.Judged.{JudgedReport, IsPossible}
+use Rattle.cell_control.specs.Examined.{ExaminedReport, IsPossible}
 use Rattle.cell_hub.specs.{declared.slots.Ticket.Ticket, declared.hub_fault.HubFault.HubFault}
 use Rattle.cell_hub.specs.declared.hub_fault.HubFault.TheVariants.{NoSuchCell, SerialsSpent, Memory, Cell}
 use Rattle.cell_hub.specs.Hub.{HubState, cell_at, Puts}
@@ -44,11 +44,11 @@ pub record IsReported (old : HubState) (t : Ticket) (r : reports.Report) (ack : 
   pub cells : Puts old new t (Some after)
   pub next_serial : new.next_serial ≡ old.next_serial
 
--- the report was judged possible in the cell of the ticket
-pub record IsPossibleAt (h : HubState) (t : Ticket) (judged : JudgedReport) : Type 0 where
+-- the report was found possible in the cell of the ticket
+pub record IsPossibleAt (h : HubState) (t : Ticket) (examined : ExaminedReport) : Type 0 where
   pub control : Control
   pub cell : cell_at h t ≡ Some control
-  pub possible : IsPossible control.planned control.cell judged
+  pub possible : IsPossible control.planned control.cell examined
 
 -- why a claim isn't accepted: the ticket has no cell, or its controller refuses it by the first reason
 abbrev pub IsNotClaimed : HubState → Ticket → Claim → HubFault → Type 0

@@ -4,7 +4,7 @@ use Rattle.shop_base.specs.declared.report.Report.{Report}
 use Rattle.slab.specs.Slab.{Slab, entries}
 use Rattle.cell_control.specs.{declared.ack.Ack.Ack, Control.Control}
 use Rattle.cell_hub.specs.{declared.slots.Ticket.Ticket, declared.slots.Placed.Placed, Hub.HubState, Hub.cell_at}
-use Rattle.cell_control.specs.Judged.{JudgedReport}
+use Rattle.cell_control.specs.Examined.{ExaminedReport}
 use Rattle.cell_hub.specs.Calls.{IsReported, IsDismissed, IsPossibleAt}
 
 module _ {P D : Type 0} where
@@ -28,6 +28,6 @@ module _ {P D : Type 0} where
   abbrev pub IsDismissedFrom : Slab (Placed P D) → Ticket → Control → Slab (Placed P D) → Type 0
   IsDismissedFrom old t content new = (next : ℕ) → IsDismissed (hub_of old next) t content (hub_of new next)
 
-  -- the report was judged possible in the ticket's cell
-  abbrev pub IsPossibleIn : Slab (Placed P D) → Ticket → JudgedReport → Type 0
+  -- the report was found possible in the ticket's cell
+  abbrev pub IsPossibleIn : Slab (Placed P D) → Ticket → ExaminedReport → Type 0
   IsPossibleIn cells t possible = (next : ℕ) → IsPossibleAt (hub_of cells next) t possible

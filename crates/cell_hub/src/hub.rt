@@ -96,7 +96,7 @@ impl<P: Timed, D: Dues> HubOf<P, D> {
         report_in(&mut self.cells, ticket, report)
     }
 
-    /// Accepts a report that was judged possible in the ticket's cell, as [`HubOf::report`] does.
+    /// Accepts a report that was found possible in the ticket's cell, as [`HubOf::report`] does.
     pub fn accept(&mut self, ticket: Ticket, possible: Possible) -> Ack
         requires { IsPossibleAt self.old ticket possible }
         ensures reported { IsReported self.old ticket possible.report result self.new }
@@ -115,7 +115,7 @@ impl<P: Timed, D: Dues> HubOf<P, D> {
         };
         // Called for its clause alone: what holds of every controller.
         let _plan = cell.shaped();
-        match cell.judge_claim(claim) {
+        match cell.examine_claim(claim) {
             Ok(possible) => Ok(self.accept(ticket, possible)),
             Err(reason) => Err(HubFault::Cell(reason)),
         }

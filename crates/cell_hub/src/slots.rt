@@ -77,7 +77,7 @@ pub(crate) fn report_in<P: Timed, D: Dues>(
     Err(HubFault::NoSuchCell)
 }
 
-/// Accepts a report that was judged possible in the ticket's cell.
+/// Accepts a report that was found possible in the ticket's cell.
 pub(crate) fn accept_in<P: Timed, D: Dues>(
     cells: &mut Slab<Placed<P, D>>,
     ticket: Ticket,

@@ -9,7 +9,7 @@ pub accept-requires-clause-possible : goal.accept-requires-clause-possible
 accept-requires-clause-possible g c = record {
   control = c.controller_of-controller.result.now;
   cell = c.controller_of-controller.ensures;
-  possible = c.in-Ok.ensures.accepted.judged.1;
+  possible = c.in-Ok.ensures.accepted.examined.1;
 }
 
 pub returns-in-Ok : goal.returns-in-Ok

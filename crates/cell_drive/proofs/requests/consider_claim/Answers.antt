@@ -10,13 +10,13 @@ returns-in-Ok-clause-accepted g c =
     let v = c.args.controller.now in
     let protocol = c.args.protocol in
     let cell = c.work_cell.result.now in
-    let judged = c.in-Ok.ensures.judged in
-    let report_is : c.report-report.result ≡ claimed v.planned c.args.claim = c.report-report.ensures ∙ judged.0 in
+    let examined = c.in-Ok.ensures.examined in
+    let report_is : c.report-report.result ≡ claimed v.planned c.args.claim = c.report-report.ensures ∙ examined.0 in
     record {
       claim = c.args.claim;
       asked = refl;
       admissible = c.in-Ok.ensures.accepted;
-      judged = judged;
+      examined = examined;
       overdue_is = c.printed_overdue-overdue.ensures ∙ ap (λ (p : PlannedShop). printed_overdue protocol p cell.cell c.report-report.result) c.work_cell.ensures.plan
           ∙ ap (λ (x : Cell). printed_overdue protocol v.planned x c.report-report.result) c.work_cell.ensures.cell
           ∙ ap (λ (r : Report). printed_overdue protocol v.planned v.cell r) report_is;

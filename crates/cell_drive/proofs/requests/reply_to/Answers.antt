@@ -6,7 +6,7 @@ use Rattle.cell_drive.proofs.{LineAnswers.was_answered, Replied.acceptance_repli
 use Rattle.cell_drive.proofs.requests.reply_to.Goals as goal
 
 pub reply_accepting-requires-clause-possible : goal.reply_accepting-requires-clause-possible
-reply_accepting-requires-clause-possible g c = c.in-Ok.ensures.accepted.judged.1
+reply_accepting-requires-clause-possible g c = c.in-Ok.ensures.accepted.examined.1
 
 pub returns-in-Ok-clause-accepted : goal.returns-in-Ok-clause-accepted
 returns-in-Ok-clause-accepted g c =

@@ -1,6 +1,6 @@
 use Rattle.std.proofs.Common.{◌-◌, arith, sym, subst}
 use Rattle.cell_tables.specs.PlannedCell.{PlannedCell}
-use Rattle.cell_control.specs.{Control.{Control, IsAnswered}, Fields.{control_of, AreFieldsOf}, Judged.JudgedReport}
+use Rattle.cell_control.specs.{Control.{Control, IsAnswered}, Fields.{control_of, AreFieldsOf}, Examined.ExaminedReport}
 use Rattle.cell_control.proofs.Fields.{answered, some_left, fields_after}
 use Rattle.cell_control.proofs.core_controller.Core.accept.Goals as goal
 
@@ -30,7 +30,7 @@ returns-clause-answered g c =
     let v = control_of s.cell (g.P.Timed.times s.cell.basis) s.orders.items s.left s.began s.punctual in
     let still = c.still_punctual-self-inside.result in
     let after = control_of new.cell (g.P.Timed.times new.cell.basis) new.orders.items (s.left - 1) s.began still in
-    subst (λ (j : JudgedReport). IsAnswered c.args.self.now j.report c.make_step-ack.result after) c.possible.view_is
+    subst (λ (j : ExaminedReport). IsAnswered c.args.self.now j.report c.make_step-ack.result after) c.possible.view_is
     (subst (λ (before : Control). IsAnswered before report c.make_step-ack.result after) c.self.view_is
     (subst (λ (x : PlannedCell g.row.P.Denot). IsAnswered v report c.make_step-ack.result (control_of x (g.P.Timed.times x.basis) new.orders.items (s.left - 1) s.began still))
     (sym c.make_step-ack.ensures.same_plan)

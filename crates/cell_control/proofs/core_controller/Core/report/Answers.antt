@@ -5,7 +5,7 @@ use Rattle.cell_control.proofs.OneReason.{only_reason}
 use Rattle.cell_control.proofs.core_controller.Core.report.Goals as goal
 
 pub accept-requires : goal.accept-requires
-accept-requires g c = c.in_ok-possible.ensures.judged.1
+accept-requires g c = c.in_ok-possible.ensures.examined.1
 
 pub returns-in_err-possible-clause-possible : goal.returns-in_err-possible-clause-possible
 returns-in_err-possible-clause-possible g c =
@@ -39,7 +39,7 @@ pub returns-clause-possible : goal.returns-clause-possible
 returns-clause-possible g c = c.in_ok-possible.ensures.possible
 
 pub returns-clause-answered : goal.returns-clause-answered
-returns-clause-answered g c = subst (λ (r : Report). IsAnswered c.args.self.now r c.accept.result c.accept.new.self) c.in_ok-possible.ensures.judged.0 c.accept.ensures.answered
+returns-clause-answered g c = subst (λ (r : Report). IsAnswered c.args.self.now r c.accept.result c.accept.new.self) c.in_ok-possible.ensures.examined.0 c.accept.ensures.answered
 
 pub returns-clause-called : goal.returns-clause-called
 returns-clause-called g c = (_, answered c.args.self.now c.args.report c.accept.result c.accept.new.self (returns-clause-answered g c))

@@ -7,12 +7,12 @@ use Rattle.cell_hub.proofs.{Called.only_refusal, Claimed.{possible_there, not_po
 use Rattle.cell_hub.proofs.hub.HubOf.claim.Goals as goal
 
 pub accept-requires : goal.accept-requires
-accept-requires g c = record { control = c.in-Some.cell.now; cell = sym c.in-Some.ensures.cell; possible = c.in-Ok.ensures.judged.1 }
+accept-requires g c = record { control = c.in-Some.cell.now; cell = sym c.in-Some.ensures.cell; possible = c.in-Ok.ensures.examined.1 }
 
 pub returns-in-Ok : goal.returns-in-Ok
 returns-in-Ok g c =
     let there = sym c.in-Some.ensures.cell in
-    let claimed = report_claimed c.args.self.now c.accept.new.self c.args.ticket c.args.claim c.in-Some.cell.now c.in-Ok.possible.report c.accept.result there c.in-Ok.ensures.judged.0 c.accept.ensures.reported in
+    let claimed = report_claimed c.args.self.now c.accept.new.self c.args.ticket c.args.claim c.in-Some.cell.now c.in-Ok.possible.report c.accept.result there c.in-Ok.ensures.examined.0 c.accept.ensures.reported in
     record {
       claimed = claimed;
       possible = possible_there (cell_at c.args.self.now c.args.ticket) c.in-Some.cell.now there c.args.claim c.in-Ok.ensures.possible;

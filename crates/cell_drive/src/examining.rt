@@ -2,7 +2,7 @@
 
 ghost use Rattle.std.specs.Prelude.{◌≡◌, IfOk, IfErr, false};
 ghost use Rattle.shop_base.specs.Report.{at, CanReport};
-ghost use Rattle.cell_control.specs.{Judged.IsJudged, Readings.IsOnTime};
+ghost use Rattle.cell_control.specs.{Examined.IsExamined, Readings.IsOnTime};
 ghost use Rattle.cell_tables.specs.Claims.{claimed};
 ghost use Rattle.cell_drive.specs.Refusals.{IsRefusal, IsAdmissible};
 ghost use Rattle.cell_drive.specs.{ProtocolText.prints_end, ProtocolText.printed_overdue};
@@ -39,18 +39,18 @@ pub(crate) fn printed_overdue<P: Planned>(
 
 /// Whether what is claimed is accepted, or why it is refused.
 #[inline(always)]
-pub(crate) fn judge<P: Timed, D: Dues>(
+pub(crate) fn examine<P: Timed, D: Dues>(
     protocol: Protocol,
     controller: &Core<P, D>,
     claim: Claim,
 ) -> Result<Possible, Refusal>
     ensures accepted { IfOk result
         (λ possible. IsAdmissible protocol controller.now.planned controller.now.cell claim) }
-    ensures judged { IfOk result (IsJudged controller.now.planned controller.now.cell (claimed controller.now.planned claim)) }
+    ensures examined { IfOk result (IsExamined controller.now.planned controller.now.cell (claimed controller.now.planned claim)) }
     ensures refused { IfErr result (IsRefusal protocol controller.now.planned controller.now.cell claim) }
 {
     let leaps = claim_leaps(protocol, controller, claim);
-    match controller.judge_claim(claim) {
+    match controller.examine_claim(claim) {
         Ok(possible) => {
             if leaps {
                 Err(Refusal::Leap)

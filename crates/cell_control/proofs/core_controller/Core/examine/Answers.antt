@@ -3,10 +3,10 @@ use Rattle.shop_base.specs.Report.{CanReport, IsNextMoment}
 use Rattle.shop_base.proofs.Decisions.{moment_now}
 use Rattle.cell_control.specs.Control.{Control}
 use Rattle.cell_control.proofs.Reasons.{reason-cannot}
-use Rattle.cell_control.proofs.core_controller.Core.judge.Goals as goal
+use Rattle.cell_control.proofs.core_controller.Core.examine.Goals as goal
 
-pub judged-requires : goal.judged-requires
-judged-requires g c = subst (λ (v : Control). CanReport v.planned v.cell c.args.report) c.self.view_is c.in_ok-check_report.ensures.possible
+pub examined-requires : goal.examined-requires
+examined-requires g c = subst (λ (v : Control). CanReport v.planned v.cell c.args.report) c.self.view_is c.in_ok-check_report.ensures.possible
 
 pub returns-clause-possible : goal.returns-clause-possible
 returns-clause-possible g c =

@@ -1,7 +1,7 @@
 use Rattle.shop_base.specs.Report.{at}
 use Rattle.cell_drive.specs.{Refusals.standing_of, States.overdue_in}
 use Rattle.cell_drive.proofs.{OnTime.{nothing_overdue, none_printed}, Refusing.reported_of_shop}
-use Rattle.cell_drive.proofs.judging.printed_overdue.Goals as goal
+use Rattle.cell_drive.proofs.examining.printed_overdue.Goals as goal
 
 pub standing_of-requires : goal.standing_of-requires
 standing_of-requires g c =

@@ -1,6 +1,6 @@
 use Rattle.std.proofs.Common.{Bool, sym, ap, ◌∙◌, refl, inl, inr}
 use Rattle.cell_drive.specs.Refusals.{first_refusal}
-use Rattle.cell_drive.proofs.judging.judge.Goals as goal
+use Rattle.cell_drive.proofs.examining.examine.Goals as goal
 
 pub returns-then-leaps-clause-refused : goal.returns-then-leaps-clause-refused
 returns-then-leaps-clause-refused g c = inr (c.in-Ok.ensures.possible, sym c.claim_leaps-leaps.ensures ∙ c.if-leaps.true, refl)
