@@ -56,7 +56,7 @@ module _ (p q : PlannedShop) (c : Cell) (same : times_of q ≡ times_of p) (soun
   -- by a plan with the same times a cell is the same
   pub carried_same : IsCarried p c q c
   carried_same = record {
-    case_jobs = sound.job_count ∙ sym (ap (λ (t : ShopTimes). length t.shop.routes) same);
+    job_count = sound.job_count ∙ sym (ap (λ (t : ShopTimes). length t.shop.routes) same);
     machine_count = sound.machine_count ∙ sym (ap (λ (t : ShopTimes). t.shop.machines) same);
     jobs_same = λ j inside. sym (ap (λ b. if b then job_in c j else awaited) (lt-ltb j (jobs p) (omega (arith, inside, ap (λ (t : ShopTimes). length t.shop.routes) same))));
     entries_same = λ m inside. refl;
