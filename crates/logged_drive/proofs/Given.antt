@@ -148,7 +148,7 @@ is_given printed held start shown pending out printed_is held_is written =
 -- a run whose answers were given to a writer that keeps a log, and which is recovered from whatever a crash leaves of these, is so behind what was shown
 module _ (known : List ℕ × List ℕ) (seen : Option (List ℕ)) (crash_states : List ℕ → Type 0) (held : Held) (printed after : Option (List ℕ)) (same : after ≡ held.written) (start : printed ≡ Some known.1) (step : AreInStep known.0 known.1 seen crash_states held.written held.pending held.failed) where
   after_crash : (p : PlannedShop) (protocol : Protocol) (front : List ℕ) (begun : DrivenCell) (recorded : List Entry) (came : DrivenCell → List Entry)
-      → ((lines : List (Option (List ℕ))) (text closing shown pending left : List ℕ) (end : DrivenCell) → law.AreAnswered p protocol begun lines text end → law.IsGiven p (front ++ text) shown pending closing end
+      → ((lines : List (Option (List ℕ))) (text closing shown pending left : List ℕ) (end : DrivenCell) → law.AreLinesAnswered p protocol begun lines text end → law.IsGiven p (front ++ text) shown pending closing end
       → IsLeft (length (known.0 ++ logged shown)) (known.0 ++ logged (shown ++ pending)) left → law.IsRecoveredAgain p recorded (came end) shown left)
       → IsFirstOfCell p protocol front begun (append_known printed []) (append_known held.written held.pending) → law.IsRecoveredAfter p recorded known.1 crash_states after
   after_crash p protocol front begun recorded came again first =
