@@ -14,7 +14,7 @@ use clap::{Arg, ArgAction, Command};
 use std::alloc::{AllocError, Global};
 
 /// The version of the program, the same as in the file `VERSION`.
-const VERSION: &str = "2.0.0";
+const VERSION: &str = "3.0.0";
 
 /// A file that has to be named.
 fn file<'a>(alloc: Global, name: &'a str, help: &'a str) -> Arg<'a>
