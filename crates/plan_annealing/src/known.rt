@@ -4,14 +4,15 @@ use crate::opening::FIRST_SIZE;
 use crate::standing::Lateness;
 use std::alloc::{AllocError, Global};
 
-/// What the search knows at the end of a round: the plan at hand, how late that and the best one that it has met were, and
-/// how many jobs it opens, in 1/16.
+/// What the search knows at the end of a round: the plan at hand, how late that and the best one that it has met were,
+/// whether the round was without a better one, and how many jobs it opens, in 1/16.
 #[derive(Drop)]
 pub struct Known {
     pub(crate) places: Vec<u32>,
     pub(crate) order: Vec<u32>,
     pub(crate) lateness: Lateness,
     pub(crate) least: Lateness,
+    pub(crate) is_stuck: bool,
     pub(crate) size: u32,
 }
 
@@ -23,6 +24,7 @@ impl Known {
             order: Vec::new(alloc),
             lateness: Lateness::NONE,
             least: Lateness::NONE,
+            is_stuck: false,
             size: FIRST_SIZE,
         }
     }

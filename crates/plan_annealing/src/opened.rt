@@ -38,7 +38,8 @@ pub fn can_open(shaped: &Shaped) -> bool {
 
 /// The order of each machine in the best plan that a large neighbourhood search meets; `None` if that is no better than
 /// this one, or if the shop is too large. The search goes on from the plan at hand at the end of its last round, if the
-/// best one that it has met is at most 2 % longer than this one, else from this one. In each step the pairs of a few
+/// best one that it has met is at most 2 % longer than this one, else from this one. Where jobs visit a machine again, in a
+/// small shop, it begins anew from another plan after each round that has met no better one. In each step the pairs of a few
 /// drawn jobs with all others are opened, and a complete search decides them anew, in a limited number of choices: for
 /// a plan that is better or, in a walk, for one that may be a little worse. The more often there is none, the more jobs
 /// are opened. A round does about the same amount of work for each large shop, some 0.4 s, and for a small one in

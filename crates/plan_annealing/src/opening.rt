@@ -34,6 +34,14 @@ const SPREAD: u32 = 4;
 /// A search goes on from its own plan if its best one is longer than the best of all by at most one part in so many.
 const NEAR: u64 = 50;
 
+/// The most operations of a small shop.
+const FEW_STEPS: u64 = 128;
+
+/// How many jobs are opened in each of the walks by which a search begins anew, in 1/16, and how many walks these are.
+const ANEW_SIZE: u32 = 48;
+
+const ANEW_WALKS: u32 = 30;
+
 /// How many jobs are opened at first, in 1/16.
 pub(crate) const FIRST_SIZE: u32 = 48;
 
@@ -44,8 +52,10 @@ pub(crate) struct Opening {
     /// The plan at hand, and the best one that was met or given.
     now: Standing,
     best: Standing,
-    /// The best that the search has met since it has gone on from another plan than its own.
+    /// The best that the search has met since it has gone on from another plan than its own, and whether this round has
+    /// met it.
     least: Lateness,
+    is_better: bool,
     size: u32,
     problem: Search,
     draws: Draws,
@@ -56,8 +66,9 @@ pub(crate) struct Opening {
     latest: Vec<Moment>,
     /// How many nodes come before each one, while the nodes are put in order.
     counts: Vec<u32>,
-    /// In how many of 16 steps it walks, and how much is done in a round.
-    walks: u32,
+    /// Whether there are few operations.
+    is_small: bool,
+    /// How much is done in a round.
     work: u64,
 }
 
@@ -72,6 +83,7 @@ impl Opening {
             now: Standing::new(alloc, nodes)?,
             best: Standing::new(alloc, nodes)?,
             least: Lateness::NONE,
+            is_better: false,
             size: FIRST_SIZE,
             problem,
             draws,
@@ -79,7 +91,7 @@ impl Opening {
             free: vec![in alloc; false; jobs]?,
             latest: vec![in alloc; 0; jobs]?,
             counts: vec![in alloc; 0; nodes.wrapping_add(2)]?,
-            walks: if steps > 100 { 4 } else { 8 },
+            is_small: steps <= FEW_STEPS,
             work: WORK_A_PAIR
                 .wrapping_mul(steps)
                 .wrapping_mul(steps)
@@ -120,23 +132,47 @@ impl Opening {
         }
     }
 
-    /// Goes on from what is known, if the best plan that the search itself has met isn't much worse than this one.
-    fn resume(&mut self, known: &Known) {
+    /// Goes on from what is known, if the best plan that the search itself has met isn't much worse than this one. In a
+    /// small shop where a job visits a machine again it does so, once no job is late, as long as each round betters that
+    /// plan, and begins anew else.
+    fn resume(&mut self, net: &Net, known: &Known) {
         self.size = known.size;
-        let is_near = is_near(known.least.total, self.best.lateness.total)
-            && is_near(known.least.makespan, self.best.lateness.makespan);
-        if is_near && known.places.len() == self.now.places.len() {
+        let best = self.best.lateness;
+        let restarts = self.is_small && net.recurs && best.total == 0;
+        let goes_on = if restarts {
+            !known.is_stuck
+        } else {
+            is_near(known.least.total, best.total) && is_near(known.least.makespan, best.makespan)
+        };
+        if goes_on && known.places.len() == self.now.places.len() {
             self.now
                 .copy_from(&known.places, &known.order, known.lateness);
             self.least = known.least;
+        } else if restarts && known.is_stuck {
+            self.begin_anew();
         } else {
-            self.least = self.best.lateness;
+            self.least = best;
         }
+        self.is_better = false;
+    }
+
+    /// Begins anew: walks to some other plan in which no job is late, however long it takes.
+    fn begin_anew(&mut self) {
+        let size = self.size;
+        self.size = ANEW_SIZE;
+        for _ in 0..ANEW_WALKS {
+            self.problem.most = Moment::MAX;
+            self.set_latest(0, Moment::MAX / 4);
+            self.attempt(true);
+        }
+        self.size = size;
+        self.least = self.now.lateness;
     }
 
     /// Keeps what the next round goes on from.
     fn keep(&self, known: &mut Known) -> Result<(), AllocError> {
         known.size = self.size;
+        known.is_stuck = !self.is_better;
         known.lateness = self.now.lateness;
         known.least = self.least;
         known.places.clear();
@@ -165,7 +201,7 @@ impl Opening {
             return Ok(false);
         }
         let first = self.best.lateness;
-        self.resume(known);
+        self.resume(net, known);
         for _ in 0..STEPS {
             if self.problem.known.work >= self.work || self.jobs.len() < 2 {
                 break;
@@ -176,10 +212,24 @@ impl Opening {
         Ok(self.best.lateness.is_less(&first))
     }
 
-    /// Opens some jobs, and goes on from the plan that is found.
+    /// Asks for a plan, and goes on from it.
     fn step(&mut self) {
-        let walks = self.draws.below(16) < self.walks;
+        let walks = self.draws.below(16) < if self.is_small { 8 } else { 4 };
         self.ask(walks);
+        match self.attempt(walks) {
+            Found::Plan => (),
+            Found::Never => {
+                if !walks {
+                    self.size = self.size.wrapping_add(1).wrapping_add(self.draws.below(2));
+                }
+            }
+            Found::Unknown => self.size = self.size.saturating_sub(3).max(16),
+        }
+        self.size = self.size.min(count(self.jobs.len()).wrapping_mul(16));
+    }
+
+    /// Opens some jobs, and goes on from the plan that is found.
+    fn attempt(&mut self, walks: bool) -> Found {
         self.open_some();
         self.put_places();
         self.problem.way = if walks { Way::Wide } else { Way::Same };
@@ -192,25 +242,23 @@ impl Opening {
         } else {
             Found::Never
         };
-        match found {
-            Found::Plan => {
-                self.now
-                    .take(&self.visits, &mut self.problem.known, &mut self.counts);
-                if self.now.lateness.is_less(&self.least) {
-                    self.least = self.now.lateness;
-                }
-                if self.now.lateness.is_less(&self.best.lateness) {
-                    self.best.copy(&self.now);
-                }
-            }
-            Found::Never => {
-                if !walks {
-                    self.size = self.size.wrapping_add(1).wrapping_add(self.draws.below(2));
-                }
-            }
-            Found::Unknown => self.size = self.size.saturating_sub(3).max(16),
+        if found == Found::Plan {
+            self.take();
         }
-        self.size = self.size.min(count(self.jobs.len()).wrapping_mul(16));
+        found
+    }
+
+    /// Goes on from the plan of the state.
+    fn take(&mut self) {
+        self.now
+            .take(&self.visits, &mut self.problem.known, &mut self.counts);
+        if self.now.lateness.is_less(&self.least) {
+            self.least = self.now.lateness;
+            self.is_better = true;
+        }
+        if self.now.lateness.is_less(&self.best.lateness) {
+            self.best.copy(&self.now);
+        }
     }
 
     /// Says by when each job has to leave, and how late all together may be.
