@@ -7,6 +7,7 @@ mod descending;
 mod driven_on;
 mod evidence;
 mod instance_texts;
+mod opened_plans;
 mod plan_texts;
 mod plans;
 mod rests;
