@@ -57,7 +57,7 @@ pub(crate) struct Search {
 
 impl Search {
     /// A search among these visits.
-    pub fn new(alloc: Global, visits: &Visits) -> Result<Search, AllocError> {
+    pub(crate) fn new(alloc: Global, visits: &Visits) -> Result<Search, AllocError> {
         let pairs = Pairs::new(alloc, visits)?;
         let no_choice = Choice {
             pair: NONE,
@@ -77,7 +77,7 @@ impl Search {
     }
 
     /// Searches from the state on, with at most so many choices.
-    pub fn run(&mut self, visits: &Visits, choices: u32) -> Found {
+    pub(crate) fn run(&mut self, visits: &Visits, choices: u32) -> Found {
         self.depth = 0;
         if !self.follow(visits) {
             return Found::Never;

@@ -13,7 +13,7 @@ pub(crate) struct Due {
 
 impl Due {
     /// Room for the places in so many words.
-    pub fn new(alloc: Global, words: usize) -> Result<Due, AllocError> {
+    pub(crate) fn new(alloc: Global, words: usize) -> Result<Due, AllocError> {
         Ok(Due {
             words: vec![in alloc; 0; words]?,
             first: words,
@@ -22,7 +22,7 @@ impl Due {
     }
 
     /// Takes all out.
-    pub fn clear(&mut self) {
+    pub(crate) fn clear(&mut self) {
         for word in self.words.iter_mut() {
             *word = 0;
         }
@@ -32,7 +32,7 @@ impl Due {
 
     /// Puts a place in.
     #[inline(always)]
-    pub fn put(&mut self, place: u32) {
+    pub(crate) fn put(&mut self, place: u32) {
         let number = place as usize / 64;
         if let Some(word) = self.words.get_mut(number) {
             *word |= 1 << (place & 63);
@@ -43,7 +43,7 @@ impl Due {
 
     /// Takes the first place out.
     #[inline(always)]
-    pub fn take_first(&mut self) -> Option<u32> {
+    pub(crate) fn take_first(&mut self) -> Option<u32> {
         for number in self.first..self.words.len() {
             if let Some(word) = self.words.get_mut(number) {
                 if *word != 0 {
@@ -60,7 +60,7 @@ impl Due {
 
     /// Takes the last place out.
     #[inline(always)]
-    pub fn take_last(&mut self) -> Option<u32> {
+    pub(crate) fn take_last(&mut self) -> Option<u32> {
         let last = self.last;
         for turn in 0..last.wrapping_add(1) {
             let number = last.wrapping_sub(turn);

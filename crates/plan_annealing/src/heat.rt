@@ -17,7 +17,7 @@ const FEW_STEPS: u64 = 100;
 impl Heat {
     /// The heat of a round over so many steps, by whether a job is late and whether one visits a machine again: every
     /// fourth round is hot (1, 5, ..), and the first is warm.
-    pub fn of(round: u32, steps: u64, is_late: bool, recurs: bool) -> Heat {
+    pub(crate) fn of(round: u32, steps: u64, is_late: bool, recurs: bool) -> Heat {
         if round & 3 == 1 {
             Heat::Hot
         } else if recurs {
@@ -30,7 +30,7 @@ impl Heat {
     }
 
     /// The temperature at the beginning, in hundredths of the mean time of a step.
-    pub fn beginning(self) -> u64 {
+    pub(crate) fn beginning(self) -> u64 {
         match self {
             Heat::Warm => 80,
             Heat::Cool => 40,
@@ -40,7 +40,7 @@ impl Heat {
 
     /// By what it is multiplied in each of 256 phases, in 1/65536: after all of them it is at 15 hundredths, or at 90
     /// where a job visits a machine again.
-    pub fn fall(self) -> u64 {
+    pub(crate) fn fall(self) -> u64 {
         match self {
             Heat::Warm => 65108,
             Heat::Cool => 65285,

@@ -38,7 +38,7 @@ pub(crate) struct Moves {
 }
 
 impl Moves {
-    pub fn new(alloc: Global, nodes: usize) -> Result<Moves, AllocError> {
+    pub(crate) fn new(alloc: Global, nodes: usize) -> Result<Moves, AllocError> {
         Ok(Moves {
             swaps: vec![in alloc; NONE; nodes]?,
             made: 0,
@@ -55,7 +55,7 @@ impl Moves {
     }
 
     /// Begins a move that ends where the plan is past the limit. Gives how many nodes it may look at.
-    pub fn begin(&mut self, limit: Moment) -> u64 {
+    pub(crate) fn begin(&mut self, limit: Moment) -> u64 {
         self.limit = limit;
         self.least = 0;
         self.made = 0;
@@ -67,7 +67,7 @@ impl Moves {
     }
 
     /// Lets no node of the job be met in this move: it is as if each was, with this bound.
-    pub fn close(&mut self, net: &Net, job: u32, bound: u32) {
+    pub(crate) fn close(&mut self, net: &Net, job: u32, bound: u32) {
         let Some(span) = net.spans.get(job as usize) else {
             return;
         };
@@ -82,7 +82,7 @@ impl Moves {
     }
 
     /// Takes the swaps of the last move back.
-    pub fn undo(&mut self, net: &mut Net) {
+    pub(crate) fn undo(&mut self, net: &mut Net) {
         for turn in 0..self.made {
             let last = self.made.wrapping_sub(turn).wrapping_sub(1);
             if let Some(place) = self.swaps.get(last as usize) {
@@ -94,7 +94,7 @@ impl Moves {
 
     /// Lets the job that enters here come before the one before it, if the plan isn't past the limit then. Gives the
     /// entry of that one, if there is one.
-    pub fn turn(&mut self, net: &mut Net, rows: &[Row], entry: u32) -> u32 {
+    pub(crate) fn turn(&mut self, net: &mut Net, rows: &[Row], entry: u32) -> u32 {
         self.looks = self.looks.wrapping_add(1);
         self.least = self.least.max(weight_after_swap(&net.spots, rows, entry));
         if self.is_past() {
@@ -116,13 +116,13 @@ impl Moves {
     }
 
     /// Whether the plan is past the limit after the swaps.
-    pub fn is_past(&self) -> bool {
+    pub(crate) fn is_past(&self) -> bool {
         self.least > self.limit
     }
 
     /// The bound with which a node was met in this move.
     #[inline]
-    pub fn met(&self, at: u32) -> Option<u32> {
+    pub(crate) fn met(&self, at: u32) -> Option<u32> {
         match self.marks.get(at as usize) {
             Some(mark) if mark.stamp == self.stamp => Some(mark.bound),
             _ => None,
@@ -132,7 +132,7 @@ impl Moves {
     /// Notes that the node is met with this bound, and that it is to be looked at. Where there is no room it isn't
     /// looked at, and the plan may have a cycle.
     #[inline]
-    pub fn meet(&mut self, at: u32, bound: u32) {
+    pub(crate) fn meet(&mut self, at: u32, bound: u32) {
         if let Some(mark) = self.marks.get_mut(at as usize) {
             *mark = Mark {
                 stamp: self.stamp,
@@ -147,7 +147,7 @@ impl Moves {
 
     /// The next node that is to be looked at; `None` if all were.
     #[inline]
-    pub fn next(&mut self) -> Option<u32> {
+    pub(crate) fn next(&mut self) -> Option<u32> {
         self.looks = self.looks.wrapping_add(1);
         if self.height == 0 || self.is_past() {
             return None;

@@ -20,7 +20,7 @@ pub(crate) struct Neighbours {
 }
 
 impl Neighbours {
-    pub fn new(alloc: Global, nodes: usize) -> Result<Neighbours, AllocError> {
+    pub(crate) fn new(alloc: Global, nodes: usize) -> Result<Neighbours, AllocError> {
         Ok(Neighbours {
             arcs: vec![in alloc; NONE; nodes]?,
             arc_count: 0,
@@ -31,12 +31,12 @@ impl Neighbours {
     }
 
     /// How many they are.
-    pub fn count(&self) -> u32 {
+    pub(crate) fn count(&self) -> u32 {
         self.arc_count.wrapping_mul(2)
     }
 
     /// The entry that the arc of a neighbour leads to.
-    pub fn entry(&self, number: u32) -> u32 {
+    pub(crate) fn entry(&self, number: u32) -> u32 {
         match self.arcs.get((number >> 1) as usize) {
             Some(entry) => *entry,
             None => NONE,
@@ -44,7 +44,7 @@ impl Neighbours {
     }
 
     /// Whether a neighbour is known to be past the limit.
-    pub fn is_past(&self, number: u32, limit: Moment) -> bool {
+    pub(crate) fn is_past(&self, number: u32, limit: Moment) -> bool {
         match self.leasts.get(number as usize) {
             Some(least) => *least > limit,
             None => true,
@@ -52,14 +52,14 @@ impl Neighbours {
     }
 
     /// Notes an estimate of what a neighbour weighs.
-    pub fn note(&mut self, number: u32, weight: Moment) {
+    pub(crate) fn note(&mut self, number: u32, weight: Moment) {
         if let Some(least) = self.leasts.get_mut(number as usize) {
             *least = weight;
         }
     }
 
     /// Begins a search for neighbours: there are none yet.
-    pub fn clear(&mut self) {
+    pub(crate) fn clear(&mut self) {
         self.arc_count = 0;
         self.search = self.search.wrapping_add(1);
     }
@@ -67,7 +67,7 @@ impl Neighbours {
     /// Adds the machine arcs between two jobs on a longest path to the node, up to where this search has been, but for
     /// those from a job that has entered its machine. Nothing is known of these neighbours. Gives how many nodes were
     /// looked at.
-    pub fn join(&mut self, spots: &[Spot], rows: &[Row], node: u32, recurs: bool) -> u32 {
+    pub(crate) fn join(&mut self, spots: &[Spot], rows: &[Row], node: u32, recurs: bool) -> u32 {
         let mut to = node;
         for looks in 0..rows.len() {
             if !self.is_new(to) {

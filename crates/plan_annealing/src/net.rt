@@ -54,12 +54,12 @@ pub(crate) struct Net {
 
 impl Net {
     /// How many steps all jobs have ahead.
-    pub fn steps(&self) -> u64 {
+    pub(crate) fn steps(&self) -> u64 {
         self.spots.len().wrapping_sub(self.spans.len()) as u64
     }
 
     /// Keeps the sources of all nodes.
-    pub fn save(&mut self) {
+    pub(crate) fn save(&mut self) {
         for (spot, place) in self.spots.iter().zip(self.saved.iter_mut()) {
             *place = spot.source;
         }
@@ -67,7 +67,7 @@ impl Net {
 
     /// Sets what is left from each node on, where a job's leaving counts as it is or, with budgets, by how much it is
     /// past its budget, `MAX_MOMENT` added.
-    pub fn set_rests(&mut self, with_budgets: bool) {
+    pub(crate) fn set_rests(&mut self, with_budgets: bool) {
         for span in &self.spans {
             if with_budgets {
                 set_rest(&mut self.spots, span, MAX_MOMENT.wrapping_sub(span.budget));

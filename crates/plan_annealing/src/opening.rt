@@ -74,7 +74,7 @@ pub(crate) struct Opening {
 
 impl Opening {
     /// A search among these visits that begins nowhere yet, with these draws.
-    pub fn new(alloc: Global, visits: Visits, draws: Draws) -> Result<Opening, AllocError> {
+    pub(crate) fn new(alloc: Global, visits: Visits, draws: Draws) -> Result<Opening, AllocError> {
         let nodes = visits.nodes.len();
         let jobs = visits.leavings.len();
         let problem = Search::new(alloc, &visits)?;
@@ -187,7 +187,7 @@ impl Opening {
     }
 
     /// Leaves the best plan in the net.
-    pub fn leave(&self, alloc: Global, net: &mut Net) -> Result<(), AllocError> {
+    pub(crate) fn leave(&self, alloc: Global, net: &mut Net) -> Result<(), AllocError> {
         let row = (self.visits.room() as usize).wrapping_add(1);
         let mut ends = vec![in alloc; NONE; row.wrapping_mul(self.visits.machines() as usize)]?;
         self.best.leave(net, &self.visits, &mut ends);
@@ -196,7 +196,7 @@ impl Opening {
 
     /// Searches for a round, from the plan of a net or from what is known. Whether a better plan than that of the net is
     /// found.
-    pub fn search(&mut self, net: &Net, known: &mut Known) -> Result<bool, AllocError> {
+    pub(crate) fn search(&mut self, net: &Net, known: &mut Known) -> Result<bool, AllocError> {
         if !self.read(net) {
             return Ok(false);
         }

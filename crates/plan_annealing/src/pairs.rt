@@ -43,7 +43,7 @@ pub(crate) struct Pairs {
 
 impl Pairs {
     /// The pairs of all visits.
-    pub fn new(alloc: Global, visits: &Visits) -> Result<Pairs, AllocError> {
+    pub(crate) fn new(alloc: Global, visits: &Visits) -> Result<Pairs, AllocError> {
         let room = visits.room();
         let mut pairs = Pairs {
             all: Vec::new(alloc),
@@ -89,12 +89,12 @@ impl Pairs {
     }
 
     /// Lets no pair be open.
-    pub fn close_all(&mut self) {
+    pub(crate) fn close_all(&mut self) {
         self.left = 0;
     }
 
     /// Lets a pair be open that isn't.
-    pub fn open(&mut self, number: u32) {
+    pub(crate) fn open(&mut self, number: u32) {
         if let Some(place) = self.open.get_mut(self.left as usize) {
             *place = number;
             self.left = self.left.wrapping_add(1);
@@ -102,18 +102,18 @@ impl Pairs {
     }
 
     /// How many pairs may be open.
-    pub fn left(&self) -> u32 {
+    pub(crate) fn left(&self) -> u32 {
         self.left
     }
 
     /// Lets the first so many pairs be open again.
-    pub fn reopen(&mut self, left: u32) {
+    pub(crate) fn reopen(&mut self, left: u32) {
         self.left = left;
     }
 
     /// The pair of a number.
     #[inline(always)]
-    pub fn pair(&self, number: u32) -> Pair {
+    pub(crate) fn pair(&self, number: u32) -> Pair {
         match self.all.get(number as usize) {
             Some(pair) => *pair,
             None => Pair {
@@ -125,25 +125,25 @@ impl Pairs {
 
     /// The number at a place among those that may be open.
     #[inline(always)]
-    pub fn open_at(&self, place: u32) -> u32 {
+    pub(crate) fn open_at(&self, place: u32) -> u32 {
         number_at(&self.open, place as usize)
     }
 
     /// Lets a weight be this.
-    pub fn weigh(&mut self, number: u32, weight: u64) {
+    pub(crate) fn weigh(&mut self, number: u32, weight: u64) {
         if let Some(place) = self.weights.get_mut(number as usize) {
             *place = weight.wrapping_mul(WEIGHT);
         }
     }
 
     /// Lets the gain be what it was at first.
-    pub fn begin(&mut self) {
+    pub(crate) fn begin(&mut self) {
         self.gain = WEIGHT;
     }
 
     /// The pair with the least room for its weight; `NONE` if all are decided. Those that are decided are no longer
     /// open.
-    pub fn choose(&mut self, visits: &Visits, state: &State) -> u32 {
+    pub(crate) fn choose(&mut self, visits: &Visits, state: &State) -> u32 {
         let mut best = NONE;
         let mut best_room = 1u64;
         let mut best_weight = 0u64;
@@ -188,7 +188,7 @@ impl Pairs {
     }
 
     /// Notes that a pair has failed both ways, and the pair of two visits at which that was seen.
-    pub fn fail(&mut self, number: u32, node: u32, visit: u32) {
+    pub(crate) fn fail(&mut self, number: u32, node: u32, visit: u32) {
         self.gain = self.gain.wrapping_add(self.gain / GROWTH).wrapping_add(1);
         let place = (node as usize)
             .wrapping_mul(self.room as usize)

@@ -64,7 +64,7 @@ fn numbers(alloc: Global, nodes: usize) -> Result<Vec<u32>, AllocError> {
 
 impl Pass {
     /// The nodes in the order of their numbers, without moments.
-    pub fn new(alloc: Global, nodes: usize) -> Result<Pass, AllocError> {
+    pub(crate) fn new(alloc: Global, nodes: usize) -> Result<Pass, AllocError> {
         Ok(Pass {
             rows: rows_of(alloc, nodes)?,
             order: numbers(alloc, nodes)?,
@@ -86,7 +86,7 @@ impl Pass {
 
     /// Finds the moments in the part where arcs have changed. Whether there is no cycle, and no path there is past the
     /// limit.
-    pub fn run(&mut self, spots: &[Spot], part: Part) -> bool {
+    pub(crate) fn run(&mut self, spots: &[Spot], part: Part) -> bool {
         self.part = part;
         self.timed = 0;
         self.off_count = 0;
@@ -105,7 +105,7 @@ impl Pass {
     }
 
     /// Finds the moments after that part.
-    pub fn continue_pass(&mut self, spots: &[Spot]) {
+    pub(crate) fn continue_pass(&mut self, spots: &[Spot]) {
         self.timed = time_from(
             spots,
             &self.order,
@@ -119,7 +119,7 @@ impl Pass {
     }
 
     /// Finds how long the paths from the nodes up to this place are, if the later nodes' are known.
-    pub fn find_tails(&mut self, spots: &[Spot], last: u32) {
+    pub(crate) fn find_tails(&mut self, spots: &[Spot], last: u32) {
         find_tails(spots, &self.order, &mut self.rows, last);
         self.looks = self.looks.wrapping_add(u64::from(last)).wrapping_add(1);
     }
@@ -213,7 +213,7 @@ impl Pass {
     }
 
     /// Keeps the moments of the last pass, and the order in which it found those where arcs have changed.
-    pub fn keep(&mut self) {
+    pub(crate) fn keep(&mut self) {
         for turn in 0..self.changed {
             let place = self.part.first.wrapping_add(turn);
             let at = match self.olds.get(turn as usize) {
@@ -230,7 +230,7 @@ impl Pass {
     }
 
     /// Takes the last pass back.
-    pub fn undo(&mut self) {
+    pub(crate) fn undo(&mut self) {
         self.put_all_on();
         for turn in 0..self.timed {
             if let Some(old) = self.olds.get(turn as usize) {
@@ -261,7 +261,7 @@ impl Pass {
     }
 
     /// Finds the machine arcs on a longest path to the node.
-    pub fn find_neighbours(&mut self, net: &Net, node: u32) {
+    pub(crate) fn find_neighbours(&mut self, net: &Net, node: u32) {
         self.neighbours.clear();
         let looks = self
             .neighbours
@@ -270,7 +270,7 @@ impl Pass {
     }
 
     /// Finds the machine arcs on a longest path to the leaving of each late job, and to this node.
-    pub fn find_all_neighbours(&mut self, net: &Net, node: u32) {
+    pub(crate) fn find_all_neighbours(&mut self, net: &Net, node: u32) {
         self.neighbours.clear();
         let mut looks = count(net.spans.len()) / 4;
         for span in &net.spans {

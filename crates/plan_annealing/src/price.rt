@@ -26,7 +26,7 @@ pub(crate) struct Price {
 
 impl Price {
     /// What nothing is known of.
-    pub fn none() -> Price {
+    pub(crate) fn none() -> Price {
         Price {
             urgency: 0,
             urgent: NONE,
@@ -37,7 +37,7 @@ impl Price {
     }
 
     /// The price of a plan with these moments.
-    pub fn of(spans: &[Span], rows: &[Row]) -> Price {
+    pub(crate) fn of(spans: &[Span], rows: &[Row]) -> Price {
         let mut price = Price::none();
         for span in spans {
             let leaves = head_in(rows, span.last);
@@ -56,12 +56,12 @@ impl Price {
     }
 
     /// Whether it is less: the total lateness decides, and if that is the same, the makespan.
-    pub fn is_less(&self, other: &Price) -> bool {
+    pub(crate) fn is_less(&self, other: &Price) -> bool {
         self.total < other.total || self.total == other.total && self.makespan < other.makespan
     }
 
     /// What is to be lessened.
-    pub fn weight(&self, aim: Aim) -> u64 {
+    pub(crate) fn weight(&self, aim: Aim) -> u64 {
         match aim {
             Aim::Budgets => self.urgency,
             Aim::Makespan => self.makespan.wrapping_add(self.total),
@@ -69,7 +69,7 @@ impl Price {
     }
 
     /// The leaving that has to come sooner.
-    pub fn leaving(&self, aim: Aim) -> u32 {
+    pub(crate) fn leaving(&self, aim: Aim) -> u32 {
         match aim {
             Aim::Makespan if self.total == 0 => self.longest,
             _ => self.urgent,

@@ -73,7 +73,11 @@ pub(crate) struct Propagation {
 
 impl Propagation {
     /// Room for these visits, and for so many pairs.
-    pub fn new(alloc: Global, visits: &Visits, pairs: usize) -> Result<Propagation, AllocError> {
+    pub(crate) fn new(
+        alloc: Global,
+        visits: &Visits,
+        pairs: usize,
+    ) -> Result<Propagation, AllocError> {
         let nodes = visits.nodes.len();
         let words = visits.words;
         Ok(Propagation {
@@ -95,7 +99,7 @@ impl Propagation {
     }
 
     /// Lets nothing be to be followed, in the order of a plan, where these jobs are open.
-    pub fn begin(&mut self, visits: &Visits, order: &[u32], free: &[bool]) {
+    pub(crate) fn begin(&mut self, visits: &Visits, order: &[u32], free: &[bool]) {
         self.stop();
         self.open_jobs_of(visits, free);
         for (place, (at, node)) in self.order.iter_mut().zip(order.iter()).enumerate() {
@@ -138,7 +142,7 @@ impl Propagation {
     }
 
     /// Lets nothing be to be followed.
-    pub fn stop(&mut self) {
+    pub(crate) fn stop(&mut self) {
         self.waiting = 0;
         self.risen.clear();
         self.fallen.clear();
@@ -146,7 +150,7 @@ impl Propagation {
 
     /// Notes a decision that has to be made, if it isn't yet.
     #[inline(always)]
-    pub fn put(&mut self, visits: &Visits, sooner: u32, later: u32) {
+    pub(crate) fn put(&mut self, visits: &Visits, sooner: u32, later: u32) {
         let row = self.state.later(sooner.wrapping_add(1));
         if self.state.has(row, visits.node(later).visit) {
             return;
@@ -158,7 +162,7 @@ impl Propagation {
     }
 
     /// Follows all that is to be followed. Whether some plan may be left.
-    pub fn settle(&mut self, visits: &Visits) -> bool {
+    pub(crate) fn settle(&mut self, visits: &Visits) -> bool {
         for _ in 0..STEPS {
             let is_left = if self.waiting > 0 {
                 self.waiting = self.waiting.wrapping_sub(1);
@@ -216,7 +220,7 @@ impl Propagation {
 
     /// Whether the one node comes before the other, or is the same, where one of them is of an open job.
     #[inline(always)]
-    pub fn leads(&self, from: u32, to: u32) -> bool {
+    pub(crate) fn leads(&self, from: u32, to: u32) -> bool {
         if has_bit(&self.open, 0, from) {
             self.state.has(self.state.after(from), to)
         } else {
@@ -279,7 +283,7 @@ impl Propagation {
     }
 
     /// How many nodes come before a node, itself too.
-    pub fn count_before(&mut self, node: u32) -> u32 {
+    pub(crate) fn count_before(&mut self, node: u32) -> u32 {
         self.find_before(node);
         let mut sum = 0u32;
         for bits in &self.before {
@@ -528,7 +532,7 @@ impl Propagation {
     }
 
     /// The orders that are excluded of a pair from the start have to be the other way round.
-    pub fn check(&mut self, visits: &Visits, one: u32, other: u32) {
+    pub(crate) fn check(&mut self, visits: &Visits, one: u32, other: u32) {
         for (sooner, later) in [(one, other), (other, one)] {
             let exit = sooner.wrapping_add(1);
             let clean = visits.clean(visits.node(later).enters);

@@ -20,19 +20,19 @@ pub(crate) struct Lateness {
 
 impl Lateness {
     /// Worse than that of any plan.
-    pub const NONE: Lateness = Lateness {
+    pub(crate) const NONE: Lateness = Lateness {
         total: Moment::MAX,
         makespan: Moment::MAX,
         worst: Moment::MAX,
     };
 
     /// Whether it is less: the total lateness decides, and if that is the same, the makespan.
-    pub fn is_less(&self, other: &Lateness) -> bool {
+    pub(crate) fn is_less(&self, other: &Lateness) -> bool {
         self.total < other.total || self.total == other.total && self.makespan < other.makespan
     }
 
     /// That of the earliest moments in a state.
-    pub fn of(visits: &Visits, state: &State) -> Lateness {
+    pub(crate) fn of(visits: &Visits, state: &State) -> Lateness {
         let mut lateness = Lateness {
             total: 0,
             makespan: 0,
@@ -59,7 +59,7 @@ pub(crate) struct Standing {
 
 impl Standing {
     /// Room for a plan of so many nodes.
-    pub fn new(alloc: Global, nodes: usize) -> Result<Standing, AllocError> {
+    pub(crate) fn new(alloc: Global, nodes: usize) -> Result<Standing, AllocError> {
         Ok(Standing {
             places: vec![in alloc; 0; nodes]?,
             order: vec![in alloc; 0; nodes]?,
@@ -68,12 +68,12 @@ impl Standing {
     }
 
     /// Becomes the same as another one.
-    pub fn copy(&mut self, from: &Standing) {
+    pub(crate) fn copy(&mut self, from: &Standing) {
         self.copy_from(&from.places, &from.order, from.lateness);
     }
 
     /// Becomes the plan with these places and this order.
-    pub fn copy_from(&mut self, places: &[u32], order: &[u32], lateness: Lateness) {
+    pub(crate) fn copy_from(&mut self, places: &[u32], order: &[u32], lateness: Lateness) {
         self.lateness = lateness;
         for (place, other) in self.places.iter_mut().zip(places.iter()) {
             *place = *other;
@@ -84,7 +84,7 @@ impl Standing {
     }
 
     /// Becomes the plan of a state in which nothing is open. Nodes are in order by how many come before them.
-    pub fn take(&mut self, visits: &Visits, known: &mut Propagation, counts: &mut [u32]) {
+    pub(crate) fn take(&mut self, visits: &Visits, known: &mut Propagation, counts: &mut [u32]) {
         self.lateness = Lateness::of(visits, &known.state);
         for (node, place) in self.places.iter_mut().enumerate() {
             *place = bits_of(&known.state, known.state.sooner(count(node)), visits.span);
@@ -101,7 +101,7 @@ impl Standing {
     }
 
     /// Becomes the plan of a net. Whether that has no cycle.
-    pub fn read(&mut self, net: &Net, visits: &Visits, counts: &mut [u32]) -> bool {
+    pub(crate) fn read(&mut self, net: &Net, visits: &Visits, counts: &mut [u32]) -> bool {
         let mut found = self.put_first(net, counts);
         for turn in 0..self.order.len() {
             if turn >= found as usize {
@@ -157,7 +157,7 @@ impl Standing {
     }
 
     /// Leaves the plan in the net's kept sources: `ends` gets the node at which the visit at each place ends.
-    pub fn leave(&self, net: &mut Net, visits: &Visits, ends: &mut [u32]) {
+    pub(crate) fn leave(&self, net: &mut Net, visits: &Visits, ends: &mut [u32]) {
         for number in 0..count(self.places.len()) {
             self.note_ends(visits, number, ends);
         }

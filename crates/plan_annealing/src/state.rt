@@ -38,7 +38,7 @@ pub(crate) struct State {
 
 impl State {
     /// Room for so many nodes, with rows of so many words for the visits of a machine and for all nodes.
-    pub fn new(
+    pub(crate) fn new(
         alloc: Global,
         nodes: usize,
         span: usize,
@@ -57,7 +57,7 @@ impl State {
     }
 
     /// Lets nothing be known.
-    pub fn clear(&mut self) {
+    pub(crate) fn clear(&mut self) {
         for word in self.words.iter_mut() {
             *word = 0;
         }
@@ -65,18 +65,18 @@ impl State {
     }
 
     /// Lets nothing be taken back.
-    pub fn commit(&mut self) {
+    pub(crate) fn commit(&mut self) {
         self.height = 0;
         self.is_full = false;
     }
 
     /// How many changes are noted.
-    pub fn height(&self) -> usize {
+    pub(crate) fn height(&self) -> usize {
         self.height
     }
 
     /// Takes the changes back that were noted after the first so many.
-    pub fn undo(&mut self, height: usize) {
+    pub(crate) fn undo(&mut self, height: usize) {
         for _ in height..self.height {
             self.height = self.height.wrapping_sub(1);
             if let Some(change) = self.trail.get(self.height) {
@@ -89,13 +89,13 @@ impl State {
 
     /// The word at a place.
     #[inline(always)]
-    pub fn word(&self, place: usize) -> u64 {
+    pub(crate) fn word(&self, place: usize) -> u64 {
         word_at(&self.words, place)
     }
 
     /// Writes a word whose change isn't noted.
     #[inline(always)]
-    pub fn write(&mut self, place: usize, word: u64) {
+    pub(crate) fn write(&mut self, place: usize, word: u64) {
         if let Some(old) = self.words.get_mut(place) {
             *old = word;
         }
@@ -103,7 +103,7 @@ impl State {
 
     /// Writes a word.
     #[inline(always)]
-    pub fn set(&mut self, place: usize, word: u64) {
+    pub(crate) fn set(&mut self, place: usize, word: u64) {
         if let Some(old) = self.words.get_mut(place) {
             match self.trail.get_mut(self.height) {
                 Some(change) => {
@@ -121,7 +121,7 @@ impl State {
 
     /// Adds bits to a word. Gives those that are new.
     #[inline(always)]
-    pub fn add(&mut self, place: usize, bits: u64) -> u64 {
+    pub(crate) fn add(&mut self, place: usize, bits: u64) -> u64 {
         let old = self.word(place);
         let new = bits & !old;
         if new != 0 {
@@ -132,7 +132,7 @@ impl State {
 
     /// Adds the bits of a row to the one at another place, where no change is noted.
     #[inline(always)]
-    pub fn join(&mut self, from: usize, to: usize) {
+    pub(crate) fn join(&mut self, from: usize, to: usize) {
         for word in 0..self.width {
             let bits = self.word(from.wrapping_add(word));
             if let Some(old) = self.words.get_mut(to.wrapping_add(word)) {
@@ -143,50 +143,50 @@ impl State {
 
     /// Adds the bits of a row to these.
     #[inline(always)]
-    pub fn gather(&self, row: usize, bits: &mut [u64]) {
+    pub(crate) fn gather(&self, row: usize, bits: &mut [u64]) {
         for (word, place) in bits.iter_mut().enumerate() {
             *place |= self.word(row.wrapping_add(word));
         }
     }
 
     /// Sets a bit of a row, where no change is noted.
-    pub fn mark(&mut self, row: usize, bit: u32) {
+    pub(crate) fn mark(&mut self, row: usize, bit: u32) {
         set_bit(&mut self.words, row, bit);
     }
 
     /// Whether a row has a bit.
     #[inline(always)]
-    pub fn has(&self, row: usize, bit: u32) -> bool {
+    pub(crate) fn has(&self, row: usize, bit: u32) -> bool {
         has_bit(&self.words, row, bit)
     }
 
     /// Where the earliest moment of a node is.
     #[inline(always)]
-    pub fn early_place(&self, node: u32) -> usize {
+    pub(crate) fn early_place(&self, node: u32) -> usize {
         node as usize
     }
 
     /// Where the latest moment of a node is.
     #[inline(always)]
-    pub fn late_place(&self, node: u32) -> usize {
+    pub(crate) fn late_place(&self, node: u32) -> usize {
         self.nodes.wrapping_add(node as usize)
     }
 
     /// The earliest moment of a node.
     #[inline(always)]
-    pub fn early(&self, node: u32) -> Moment {
+    pub(crate) fn early(&self, node: u32) -> Moment {
         self.word(self.early_place(node))
     }
 
     /// The latest moment of a node.
     #[inline(always)]
-    pub fn late(&self, node: u32) -> Moment {
+    pub(crate) fn late(&self, node: u32) -> Moment {
         self.word(self.late_place(node))
     }
 
     /// The row of the visits that are later than the one that ends at a node.
     #[inline(always)]
-    pub fn later(&self, node: u32) -> usize {
+    pub(crate) fn later(&self, node: u32) -> usize {
         self.nodes
             .wrapping_mul(2)
             .wrapping_add((node as usize).wrapping_mul(self.span))
@@ -194,7 +194,7 @@ impl State {
 
     /// The row of the visits that are sooner than the one that begins at a node.
     #[inline(always)]
-    pub fn sooner(&self, node: u32) -> usize {
+    pub(crate) fn sooner(&self, node: u32) -> usize {
         self.nodes
             .wrapping_mul(self.span.wrapping_add(2))
             .wrapping_add((node as usize).wrapping_mul(self.span))
@@ -202,7 +202,7 @@ impl State {
 
     /// The row of the nodes after a node.
     #[inline(always)]
-    pub fn after(&self, node: u32) -> usize {
+    pub(crate) fn after(&self, node: u32) -> usize {
         self.nodes
             .wrapping_mul(self.span.wrapping_mul(2).wrapping_add(2))
             .wrapping_add((node as usize).wrapping_mul(self.width))
@@ -210,7 +210,7 @@ impl State {
 
     /// The row of the nodes before a node.
     #[inline(always)]
-    pub fn before(&self, node: u32) -> usize {
+    pub(crate) fn before(&self, node: u32) -> usize {
         self.nodes
             .wrapping_mul(
                 self.span

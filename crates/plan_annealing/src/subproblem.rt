@@ -12,7 +12,7 @@ const BEGINNING: u64 = 10;
 impl Search {
     /// Begins with what holds in each plan whose jobs leave by these moments, where the pairs of these jobs alone are
     /// open. Whether there may be one.
-    pub fn begin(
+    pub(crate) fn begin(
         &mut self,
         visits: &Visits,
         order: &[u32],

@@ -65,7 +65,7 @@ pub(crate) struct Visits {
 
 impl Visits {
     /// The visits of a net.
-    pub fn new(alloc: Global, net: &Net) -> Result<Visits, AllocError> {
+    pub(crate) fn new(alloc: Global, net: &Net) -> Result<Visits, AllocError> {
         let nodes = net.spots.len();
         let machines = net.entered.len();
         let span = words_for(most_visits(alloc, net)?);
@@ -201,30 +201,30 @@ impl Visits {
     }
 
     /// How many visits the tables have room for, on each machine.
-    pub fn room(&self) -> u32 {
+    pub(crate) fn room(&self) -> u32 {
         count(self.span).wrapping_mul(64)
     }
 
     /// How many machines there are.
-    pub fn machines(&self) -> u32 {
+    pub(crate) fn machines(&self) -> u32 {
         count(self.cleans.len())
     }
 
     /// The node at which a visit begins, `NONE` if it has begun.
     #[inline(always)]
-    pub fn entry(&self, machine: u32, visit: u32) -> u32 {
+    pub(crate) fn entry(&self, machine: u32, visit: u32) -> u32 {
         number_at(&self.entries, self.place(machine, visit))
     }
 
     /// The node at which a visit ends, `NONE` if there is no such visit.
     #[inline(always)]
-    pub fn exit(&self, machine: u32, visit: u32) -> u32 {
+    pub(crate) fn exit(&self, machine: u32, visit: u32) -> u32 {
         number_at(&self.exits, self.place(machine, visit))
     }
 
     /// How long a machine is cleaned.
     #[inline(always)]
-    pub fn clean(&self, machine: u32) -> Moment {
+    pub(crate) fn clean(&self, machine: u32) -> Moment {
         match self.cleans.get(machine as usize) {
             Some(clean) => *clean,
             None => 0,
@@ -233,7 +233,7 @@ impl Visits {
 
     /// The node of this number; if there is none, one of no job.
     #[inline(always)]
-    pub fn node(&self, number: u32) -> Node {
+    pub(crate) fn node(&self, number: u32) -> Node {
         match self.nodes.get(number as usize) {
             Some(node) => *node,
             None => NO_NODE,
@@ -242,20 +242,20 @@ impl Visits {
 
     /// Of the visits of other jobs to the machine that is entered at a node, those of this word.
     #[inline(always)]
-    pub fn rivals_in(&self, entry: u32, word: usize) -> u64 {
+    pub(crate) fn rivals_in(&self, entry: u32, word: usize) -> u64 {
         let row = (entry as usize).wrapping_mul(self.span);
         word_at(&self.rivals, row.wrapping_add(word))
     }
 
     /// Of the nodes at which a visit to the machine ends, those of this word.
     #[inline(always)]
-    pub fn ends_in(&self, machine: u32, word: usize) -> u64 {
+    pub(crate) fn ends_in(&self, machine: u32, word: usize) -> u64 {
         word_at(&self.ends, self.nodes_row(machine, word))
     }
 
     /// Of the nodes at which a visit to the machine begins, those of this word.
     #[inline(always)]
-    pub fn begins_in(&self, machine: u32, word: usize) -> u64 {
+    pub(crate) fn begins_in(&self, machine: u32, word: usize) -> u64 {
         word_at(&self.begins, self.nodes_row(machine, word))
     }
 
