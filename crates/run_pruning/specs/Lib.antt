@@ -1,0 +1,6 @@
+-- Reached by public clauses: to be read and believed.
+pub mod Staying
+pub mod Pruned
+pub mod PrunedEvents
+pub mod Over
+pub mod PruningLaw

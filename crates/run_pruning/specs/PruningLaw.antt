@@ -1,0 +1,56 @@
+-- The laws of a run without jobs.
+use Rattle.std.specs.Prelude.{◌≡◌, ℕ, ◌≤◌, List, Bool, true, length, Option, None, replicate}
+use Rattle.shop_base.specs.Plan.{PlannedShop, jobs, machines, IsWellShaped}
+use Rattle.shop_base.specs.Cell.{job_in, cleaning}
+use Rattle.shop_base.specs.Run.{Event, IsRun, ends_in}
+use Rattle.shop_base.specs.ReportsLeft.{reports_left}
+use Rattle.run_pruning.specs.Staying.{stays, new_number}
+use Rattle.run_pruning.specs.{Pruned.pruned, Pruned.pruned_cell, Over.DropsWhatIsOver}
+use Rattle.run_pruning.specs.PrunedEvents.{pruned_events, last_owner}
+
+-- before a run nobody has left a machine, and there is no cleaning to be told whose
+abbrev pub nobody_left : PlannedShop → List ℕ
+nobody_left p = replicate (machines p) 0
+
+-- the events of the run of the jobs that stay
+abbrev pub pruned_run : List Bool → PlannedShop → List Event → List Event
+pruned_run marks p es = pruned_events marks (nobody_left p) es
+
+-- whose the last event of a run is
+abbrev pub run_owner : PlannedShop → List Event → Option ℕ
+run_owner p es = last_owner None (nobody_left p) es
+
+-- a choice of jobs: a mark for each, and at least one stays
+pub record IsChoice (p : PlannedShop) (marks : List Bool) : Type 0 where
+  pub count : length marks ≡ jobs p
+  pub some : ℕ
+  pub some_stays : stays marks some ≡ true
+
+-- whatever jobs stay, the planned shop of them alone is well shaped, and their events are a run of it, which ends in the cell without the others
+pub record IsRunOfThose (marks : List Bool) (p : PlannedShop) (es : List Event) : Type 0 where
+  pub shaped : IsWellShaped (pruned marks p)
+  pub run : IsRun (pruned marks p) (pruned_run marks p es)
+  pub last : ℕ
+  pub not_later : last ≤ (ends_in p es).last
+  pub ends : ends_in (pruned marks p) (pruned_run marks p es) ≡ pruned_cell marks (ends_in p es) last
+
+abbrev pub AnyJobsHaveTheirRun : Type 0
+AnyJobsHaveTheirRun = (p : PlannedShop) (es : List Event) (marks : List Bool) → IsWellShaped p → IsRun p es → IsChoice p marks → IsRunOfThose marks p es
+
+-- what is left of a run without jobs that are over is a run too, of the planned shop without them: it ends in the cell without them, at the same moment
+pub record IsWhatIsLeft (marks : List Bool) (p : PlannedShop) (es : List Event) : Type 0 where
+  pub choice : IsChoice p marks
+  pub shaped : IsWellShaped (pruned marks p)
+  pub run : IsRun (pruned marks p) (pruned_run marks p es)
+  pub ends : ends_in (pruned marks p) (pruned_run marks p es) ≡ pruned_cell marks (ends_in p es) (ends_in p es).last
+  -- each job that stays is at its step, ready or not, since the same moment
+  pub jobs_same : (j : ℕ) → stays marks j ≡ true → job_in (ends_in (pruned marks p) (pruned_run marks p es)) (new_number marks j) ≡ job_in (ends_in p es) j
+  -- each machine is being cleaned since the same moment, or isn't
+  pub cleaning_same : (m : ℕ) → cleaning (ends_in (pruned marks p) (pruned_run marks p es)) m ≡ cleaning (ends_in p es) m
+  -- and as many reports are left
+  pub reports_same : reports_left (pruned marks p) (ends_in (pruned marks p) (pruned_run marks p es)) ≡ reports_left p (ends_in p es)
+
+-- what is left is a run: whatever jobs that are over at the end of a run are dropped
+abbrev pub WhatIsLeftIsARun : Type 0
+WhatIsLeftIsARun = (p : PlannedShop) (es : List Event) (marks : List Bool) → IsWellShaped p → IsRun p es
+    → DropsWhatIsOver p (ends_in p es) (run_owner p es) marks → IsWhatIsLeft marks p es
