@@ -5,3 +5,5 @@ pub mod PrunedSteps
 pub mod PrunedRuns
 pub mod PrunedReports
 pub mod WhatIsLeft
+pub mod Marking
+pub mod Walks

@@ -1,5 +1,5 @@
 -- A planned shop without the jobs that don't stay is well shaped.
-use Rattle.std.proofs.Common.{◌≡◌, ℕ, ◌<◌, ◌≤◌, List, [], length, slice_index, Bool, true, false, nat_eq, sym, ap, ◌∙◌, subst, arith, lt_of_not-le}
+use Rattle.std.proofs.Common.{◌≡◌, ℕ, ◌<◌, ◌≤◌, List, [], length, slice_index, Option, Bool, true, false, nat_eq, refl, sym, ap, ◌∙◌, subst, arith, lt_of_not-le}
 use Rattle.std.proofs.Math.ListN.{get_or-map}
 use Rattle.std.proofs.lemmas.List.{get_or_past, length-map}
 use Rattle.shop_base.specs.declared.shop.Step.{Step}
@@ -113,3 +113,13 @@ module _ (p : PlannedShop) (marks : List Bool) (count : length marks ≡ jobs p)
       };
       orders = order_sound;
     }
+
+-- a planned shop is its parts
+pub planned_parts : (q : PlannedShop) (n : ℕ) (again : Bool) (routes : List (List Step)) (releases budgets : List ℕ) (orders : List (List ℕ)) (cleanings : Option (List ℕ))
+    → n ≡ q.shop.machines → again ≡ q.shop.recirculates → routes ≡ q.shop.routes → releases ≡ q.plan.release → budgets ≡ q.plan.budget → orders ≡ q.plan.order → cleanings ≡ q.plan.clean
+    → (let whole : PlannedShop = record {
+      shop = record { machines = n; routes = routes; recirculates = again };
+      plan = record { release = releases; budget = budgets; order = orders; clean = cleanings };
+    } in
+    whole ≡ q)
+planned_parts q n again routes releases budgets orders cleanings one two three four five six seven = rw (one, two, three, four, five, six, seven) refl

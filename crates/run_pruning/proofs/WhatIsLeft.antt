@@ -10,7 +10,7 @@ use Rattle.shop_base.proofs.Keeping.{start-made, run-sound}
 use Rattle.shop_base.proofs.Sizes.{place_job}
 use Rattle.run_pruning.specs.Staying.{stays, new_number}
 use Rattle.run_pruning.specs.Pruned.{pruned, last_in, pruned_cell}
-use Rattle.run_pruning.specs.Over.{DropsWhatIsOver}
+use Rattle.run_pruning.specs.Over.{IsOver, DropsWhatIsOver, DropsAllThatIsOver}
 use Rattle.run_pruning.specs.PruningLaw.{pruned_run, run_owner, IsWhatIsLeft, WhatIsLeftIsARun}
 use Rattle.run_pruning.proofs.PrunedShops.{pruned-shaped}
 use Rattle.run_pruning.proofs.PrunedCells.{cleaning_kept, cleaning_none, job_left}
@@ -91,3 +91,11 @@ module _ (p : PlannedShop) (es : List Event) (marks : List Bool) (shaped : IsWel
 
 pub what_is_left_is_a_run-holds : WhatIsLeftIsARun
 what_is_left_is_a_run-holds p es marks shaped run drops = left p es marks shaped run drops
+
+-- so it is without all jobs that are over
+pub left_over : (p : PlannedShop) (end : Cell) (es : List Event) (marks : List Bool) → IsWellShaped p → IsRun p es → ends_in p es ≡ end → DropsAllThatIsOver p end (run_owner p es) marks
+    → IsWhatIsLeft marks p es
+left_over p end es marks shaped run ends drops = what_is_left_is_a_run-holds p es marks shaped run (record {
+  count = drops.count;
+  over = λ j inside dropped. subst (λ x. IsOver p x (run_owner p es) j) (sym ends) ((drops.exact j inside).0 dropped);
+})

@@ -4,3 +4,4 @@ pub mod Pruned
 pub mod PrunedEvents
 pub mod Over
 pub mod PruningLaw
+pub mod Numbers

@@ -15,7 +15,11 @@ pub record DropsWhatIsOver (p : PlannedShop) (c : Cell) (last : Option ℕ) (mar
   pub count : length marks ≡ jobs p
   pub over : (j : ℕ) → j < jobs p → stays marks j ≡ false → IsOver p c last j
 
--- and all jobs that are over don't stay
-pub record DropsAllThatIsOver (p : PlannedShop) (c : Cell) (last : Option ℕ) (marks : List Bool) : Type 0 where
-  pub count : length marks ≡ jobs p
-  pub exact : (j : ℕ) → j < jobs p → (stays marks j ≡ false) ↔ IsOver p c last j
+-- of the first n jobs those that don't stay are just those that are over
+pub record DropsOver (p : PlannedShop) (c : Cell) (last : Option ℕ) (n : ℕ) (marks : List Bool) : Type 0 where
+  pub count : length marks ≡ n
+  pub exact : (j : ℕ) → j < n → (stays marks j ≡ false) ↔ IsOver p c last j
+
+-- just the jobs that are over don't stay
+abbrev pub DropsAllThatIsOver : PlannedShop → Cell → Option ℕ → List Bool → Type 0
+DropsAllThatIsOver p c last marks = DropsOver p c last (jobs p) marks

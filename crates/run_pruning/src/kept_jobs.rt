@@ -1,0 +1,71 @@
+//! The jobs that stay, by their new numbers.
+
+ghost use Rattle.std.specs.Prelude.{◌≡◌, ◌<◌, ◌≤◌, ◌++◌, ◌∷◌, [], length, OnOk};
+ghost use Rattle.shop_base.specs.declared.limits.TheConstants.{MAX_JOBS};
+ghost use Rattle.run_pruning.specs.Numbers.{number_of};
+
+use shop_base::JobNo;
+use std::alloc::{AllocError, Global};
+use std::marker::Model;
+
+/// Which jobs stay, seen as a mark for each job. Those that stay have new numbers, from 0, in their order.
+#[derive(Debug, Drop)]
+pub struct KeptJobs {
+    numbers: Vec<Option<JobNo>>,
+    count: u32,
+}
+
+impl Model for KeptJobs {
+    ghost use Rattle.std.specs.Prelude.{List, Bool};
+    ghost use Rattle.run_pruning.specs.Numbers.{marks_of, AreNumbers};
+
+    ghost Value = { List Bool };
+
+    ghost view = { λ k. marks_of k.numbers.items };
+
+    ghost invariant = { λ k. AreNumbers k.numbers.items k.count };
+}
+
+impl KeptJobs {
+    /// Of no jobs.
+    pub(crate) fn none(alloc: Global) -> KeptJobs
+        ensures { result ≡ [] }
+    {
+        KeptJobs {
+            numbers: Vec::new(alloc),
+            count: 0,
+        }
+    }
+
+    /// One job more, which stays or doesn't.
+    pub(crate) fn note(&mut self, stays: bool) -> Result<(), AllocError>
+        requires { length self.old < MAX_JOBS }
+        ensures { OnOk result (self.new ≡ self.old ++ stays ∷ []) }
+    {
+        if stays {
+            self.numbers.push(Some(self.count))?;
+            self.count += 1;
+        } else {
+            self.numbers.push(None)?;
+        }
+        Ok(())
+    }
+
+    /// The new number of a job; `None` if it doesn't stay.
+    pub fn number_of(&self, job: JobNo) -> Option<JobNo>
+        ensures { result ≡ number_of self.now job }
+    {
+        match self.numbers.get(job as usize) {
+            Some(number) => *number,
+            None => None,
+        }
+    }
+
+    /// How many jobs there were.
+    pub(crate) fn len(&self) -> u32
+        ensures count { result ≡ length self.now }
+        ensures few { result ≤ MAX_JOBS }
+    {
+        self.numbers.len() as u32
+    }
+}
