@@ -3,7 +3,10 @@ pub mod PrunedShops
 pub mod PrunedCells
 pub mod PrunedSteps
 pub mod PrunedRuns
+pub mod AheadStays
 pub mod PrunedReports
 pub mod WhatIsLeft
 pub mod Marking
 pub mod Walks
+pub mod NothingMore
+pub mod RestSame

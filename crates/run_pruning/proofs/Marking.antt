@@ -38,9 +38,14 @@ module _ (marks : List Bool) (b : Bool) where
 pub marks_more : (numbers : List (Option ℕ)) (o : Option ℕ) → marks_of (numbers ++ o ∷ []) ≡ marks_of numbers ++ is_some o ∷ []
 marks_more numbers o = map-append (λ n. is_some n) numbers (o ∷ [])
 
-pub numbers_more : (numbers : List (Option ℕ)) (count next : ℕ) (b : Bool) (o : Option ℕ) → AreNumbers numbers count → length numbers < MAX_JOBS → o ≡ (if b then Some count else None) → is_some o ≡ b
+-- a job has a number where it stays
+number_mark : (b : Bool) (n : ℕ) → is_some (if b then Some n else None) ≡ b
+number_mark true n = refl
+number_mark false n = refl
+
+pub numbers_more : (numbers : List (Option ℕ)) (count next : ℕ) (b : Bool) (o : Option ℕ) → AreNumbers numbers count → length numbers < MAX_JOBS → o ≡ (if b then Some count else None)
     → next ≡ count + cond b 1 0 → AreNumbers (numbers ++ o ∷ []) next
-numbers_more numbers count next b o are few is mark more = record {
+numbers_more numbers count next b o are few is more = record {
   each = λ j less. elim (cases_lt j (length numbers)) [
     | inl inside ↦ get_or-append numbers (o ∷ []) None j inside ∙ are.each j inside ∙ sym (number_of_before (marks_of numbers) b j (omega (arith, inside, size))) ∙ sym (ap (λ ms. number_of ms j) marks)
     | inr past ↦ (let last : j ≡ length numbers = omega (arith, less, past, length-append numbers (o ∷ [])) in
@@ -60,7 +65,7 @@ numbers_more numbers count next b o are few is mark more = record {
 }
   where
     marks : marks_of (numbers ++ o ∷ []) ≡ marks_of numbers ++ b ∷ []
-    marks = marks_more numbers o ∙ ap (λ x. marks_of numbers ++ x ∷ []) mark
+    marks = marks_more numbers o ∙ ap (λ x. marks_of numbers ++ x ∷ []) (ap (λ x. is_some x) is ∙ number_mark b count)
 
     size : length (marks_of numbers) ≡ length numbers
     size = length-map numbers (λ n. is_some n)

@@ -9,8 +9,6 @@ use Rattle.shop_base.specs.Ends.{sum_below}
 use Rattle.shop_base.specs.ReportsLeft.{busy, job_reports_left, departures, cleanings_left, reports_left}
 use Rattle.shop_base.specs.Sound.{IsSound}
 use Rattle.shop_base.proofs.Visits.{visits_job, on_or_not}
-use Rattle.shop_base.proofs.Places.{stands_at}
-use Rattle.shop_base.proofs.Sizes.{place_job}
 use Rattle.shop_base.proofs.Sums.{sum_below_same}
 use Rattle.shop_base.proofs.Counting.{count_passed, count_failed}
 use Rattle.shop_base.proofs.Departures.{departures_free, departures_on}
@@ -19,6 +17,7 @@ use Rattle.run_pruning.specs.Pruned.{pruned, last_in, pruned_cell}
 use Rattle.run_pruning.proofs.Left.{stays_at, length-renumbered, renumbered-append}
 use Rattle.run_pruning.proofs.PrunedShops.{jobs_left, route_kept, order_left}
 use Rattle.run_pruning.proofs.PrunedCells.{entries_left, job_left}
+use Rattle.run_pruning.proofs.AheadStays.{stays_here, place_stays}
 use Rattle.run_pruning.proofs.PrunedSteps.{newest_in, on_left, free_left}
 
 -- a sum over the jobs that stay, by their new numbers, is that over all jobs where the others add nothing
@@ -66,23 +65,10 @@ module _ (p : PlannedShop) (marks : List Bool) (count : length marks ≡ jobs p)
 
   -- what is ahead of a machine is of jobs that stay
   ahead_stays : (m : ℕ) (rest : List ℕ) → m < machines p → order p m ≡ entries c m ++ rest → (i : ℕ) → i < length rest → stays_at marks rest i ≡ true
-  ahead_stays m rest inside e i less = go (stays_at marks rest i) refl
-    where
-      a : ℕ
-      a = length (entries c m) + i
-
-      within : a < length (order p m)
-      within = omega (arith, less, ap length e, length-append (entries c m) rest)
-
-      same : job_at p m a ≡ get_or rest i 0
-      same = ap (λ (js : List ℕ). get_or js a 0) e ∙ get_or-append-add (entries c m) rest i 0
-
-      go : (b : Bool) → stays_at marks rest i ≡ b → stays_at marks rest i ≡ true
-      go true is = is
-      go false is =
-          let (k, stands) = stands_at p m a shaped inside within in
-          let out : IsGone p c (job_at p m a) = gone (job_at p m a) (place_job p shaped m a inside within) (ap (stays marks) same ∙ is) in
-          absurd (omega (arith, sound.made_entered m a (job_at p m a) k stands (omega (arith, out, stands.visits.within))))
+  ahead_stays m rest inside e i less =
+      let a : ℕ = length (entries c m) + i in
+      let same : job_at p m a ≡ get_or rest i 0 = ap (λ (js : List ℕ). get_or js a 0) e ∙ get_or-append-add (entries c m) rest i 0 in
+      ap (stays marks) (sym same) ∙ place_stays p marks shaped c sound gone m a inside (omega arith) (omega (arith, less, ap length e, length-append (entries c m) rest))
 
   -- so as many visits are ahead of it
   ahead_same : (m : ℕ) → m < machines p → length (order q m) + length (entries c m) ≡ length (order p m) + length (entries d m)
@@ -99,17 +85,9 @@ module _ (p : PlannedShop) (marks : List Bool) (count : length marks ≡ jobs p)
     | inr off ↦ inr (λ j k on. off k (subst (λ x. IsOn p c x k m) (sym (newest_in p c j k m shaped sound on)) on))
   ]
 
-  -- a job that isn't gone stays
-  on_kept : (j k m : ℕ) → j < jobs p → IsOn p c j k m → stays marks j ≡ true
-  on_kept j k m inside on = go (stays marks j) refl
-    where
-      go : (b : Bool) → stays marks j ≡ b → stays marks j ≡ true
-      go true is = is
-      go false is = absurd (omega (arith, gone j inside is, on.entered, on.visits.within))
-
   departures_same : (m : ℕ) → m < machines p → length (order q m) - departures q d m ≡ length (order p m) - departures p c m
   departures_same m inside = elim (held_or_free m) [
-    | inl (j, k, on) ↦ (let there : IsOn q d (new_number marks j) k m = on_left p marks count shaped c sound u sooner j k m (on_kept j k m (visits_job p j k m on.visits) on) on in
+    | inl (j, k, on) ↦ (let there : IsOn q d (new_number marks j) k m = on_left p marks count shaped c sound u sooner j k m (stays_here p marks shaped c sound gone j (visits_job p j k m on.visits) (omega (arith, on.entered, on.visits.within))) on in
         omega (arith, ahead_same m inside, departures_on p c j k m shaped sound on, departures_on q d (new_number marks j) k m shaped_left sound_left there))
     | inr free ↦ omega (arith, ahead_same m inside, departures_free p c m free, departures_free q d m (free_left p marks count shaped c sound u sooner m free))
   ]

@@ -32,7 +32,7 @@ pub record Tracks (p : PlannedShop) (c : Cell) (left : List ℕ) : Type 0 where
   pub size : length left ≡ machines p
   pub last : (m s : ℕ) → cleaning c m ≡ Some s → get_or left m 0 ≡ last_in (entries c m)
 
-start-tracks : (p : PlannedShop) → Tracks p (start p) (nobody_left p)
+pub start-tracks : (p : PlannedShop) → Tracks p (start p) (nobody_left p)
 start-tracks p = record {
   size = length-replicate (machines p) 0;
   last = λ m s is. absurd (let none = ap (λ (x : MachineState). x.cleaning) (start_unused p m) in cc);
@@ -75,14 +75,14 @@ moved-tracks p c j t left shaped sound can keeps tracks = record {
     few : made c j ≤ steps p j
     few = moves_within p c j t sound can
 
-after-tracks : (p : PlannedShop) (c : Cell) (e : Event) (left : List ℕ) → IsWellShaped p → IsSound p c → CanHappen p c e → Tracks p c left → Tracks p (after p c e) (left_after left e)
+pub after-tracks : (p : PlannedShop) (c : Cell) (e : Event) (left : List ℕ) → IsWellShaped p → IsSound p c → CanHappen p c e → Tracks p c left → Tracks p (after p c e) (left_after left e)
 after-tracks p c (Reported r) left shaped sound can tracks = reported-tracks p c (after_report c r) left (after_report-like p c r sound can) tracks
 after-tracks p c (Moved o) left shaped sound (obeys, keeps) tracks =
     subst (λ (x : Spot). Tracks p (after_move p c o.job o.at) (left_spot left o.job x)) (sym (ap (λ (x : MoveOrder). x.source) obeys.is_move))
     (moved-tracks p c o.job o.at left shaped sound obeys.can keeps tracks)
 
 -- an event isn't before the last moment
-after-later : (p : PlannedShop) (c : Cell) (e : Event) → CanHappen p c e → c.last ≤ (after p c e).last
+pub after-later : (p : PlannedShop) (c : Cell) (e : Event) → CanHappen p c e → c.last ≤ (after p c e).last
 after-later p c (Reported r) can = omega (arith, can.moment.in_order, after_report-last c r)
 after-later p c (Moved o) (obeys, keeps) = obeys.can.moment.in_order
 
@@ -99,7 +99,7 @@ record AreTheirs (p : PlannedShop) (marks : List Bool) (c : Cell) (es : List Eve
   ends : after_all (pruned marks p) (pruned_cell marks c u) fs ≡ pruned_cell marks (after_all p c es) last
   latest : IsLatest marks found (after_all p c es) last
 
-pruned_first : (marks : List Bool) (left : List ℕ) (e : Event) (es : List Event) (b : Bool) → stays marks (owner left e) ≡ b
+pub pruned_first : (marks : List Bool) (left : List ℕ) (e : Event) (es : List Event) (b : Bool) → stays marks (owner left e) ≡ b
     → pruned_events marks left (e ∷ es) ≡ (if b then renamed marks e ∷ pruned_events marks (left_after left e) es else pruned_events marks (left_after left e) es)
 pruned_first marks left e es b is =
     ap {B = List Event} (λ (x : Bool). if x then renamed marks e ∷ pruned_events marks (left_after left e) es else pruned_events marks (left_after left e) es) is
@@ -138,7 +138,7 @@ module _ (p : PlannedShop) (marks : List Bool) (count : length marks ≡ jobs p)
       (one_more c e es left u (stays marks (owner left e)) refl sound can tracks sooner
       (pruned_on (after p c e) es (left_after left e) (Some (owner left e)) (after-sound p c e shaped sound can) events (after-tracks p c e left shaped sound can tracks)))
 
-  start_left : pruned_cell marks (start p) 0 ≡ start (pruned marks p)
+  pub start_left : pruned_cell marks (start p) 0 ≡ start (pruned marks p)
   start_left = parts (staying-replicate marks (jobs p) (record { made = 0; ready = false; since = 0 }) count
       ∙ ap (λ n. replicate n (record { made = 0; ready = false; since = 0 })) (ap (new_number marks) (sym count) ∙ sym (jobs_left p marks count)))
       (unused_all (machines p))

@@ -4,4 +4,5 @@ pub mod Pruned
 pub mod PrunedEvents
 pub mod Over
 pub mod PruningLaw
+pub mod RestLaw
 pub mod Numbers

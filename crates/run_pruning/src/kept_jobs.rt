@@ -1,6 +1,6 @@
 //! The jobs that stay, by their new numbers.
 
-ghost use Rattle.std.specs.Prelude.{◌≡◌, ◌<◌, ◌≤◌, ◌++◌, ◌∷◌, [], length, OnOk};
+ghost use Rattle.std.specs.Prelude.{◌≡◌, ◌+◌, ◌<◌, ◌≤◌, ◌++◌, ◌∷◌, [], length, OnOk, Some, None, cond, if◌then◌else◌};
 ghost use Rattle.shop_base.specs.declared.limits.TheConstants.{MAX_JOBS};
 ghost use Rattle.run_pruning.specs.Numbers.{number_of};
 
@@ -42,12 +42,9 @@ impl KeptJobs {
         requires { length self.old < MAX_JOBS }
         ensures { OnOk result (self.new ≡ self.old ++ stays ∷ []) }
     {
-        if stays {
-            self.numbers.push(Some(self.count))?;
-            self.count += 1;
-        } else {
-            self.numbers.push(None)?;
-        }
+        let count = next_count(stays, self.count);
+        self.numbers.push(next_number(stays, self.count))?;
+        self.count = count;
         Ok(())
     }
 
@@ -68,4 +65,19 @@ impl KeptJobs {
     {
         self.numbers.len() as u32
     }
+}
+
+/// The new number of a job before which so many stay, if it stays.
+fn next_number(stays: bool, count: u32) -> Option<JobNo>
+    ensures { result ≡ (if stays then Some count else None) }
+{
+    if stays { Some(count) } else { None }
+}
+
+/// How many stay behind it.
+fn next_count(stays: bool, count: u32) -> u32
+    requires { count < MAX_JOBS }
+    ensures { result ≡ count + cond stays 1 0 }
+{
+    if stays { count + 1 } else { count }
 }

@@ -2,7 +2,8 @@
 
 // Nothing is done here: a function's contract is the law, so a check of this crate proves it.
 
-ghost use Rattle.run_pruning.specs.PruningLaw.{AnyJobsHaveTheirRun, WhatIsLeftIsARun};
+ghost use Rattle.run_pruning.specs.PruningLaw.{AnyJobsHaveTheirRun, WhatIsLeftIsARun, NothingMoreIsOver};
+ghost use Rattle.run_pruning.specs.RestLaw.{NothingAheadChanges};
 
 /// Whatever jobs stay, at least one, the planned shop of them alone is well shaped, and their events are a run of it, which
 /// ends in the cell without the others. A job may visit a machine again.
@@ -14,4 +15,16 @@ pub fn any_jobs_have_their_run()
 /// at the same moment. What is ahead and what goes on stay as they are.
 pub fn what_is_left_is_a_run()
     ensures { WhatIsLeftIsARun }
+{}
+
+/// Of what is left of a run without all jobs that are over, no job is over. So what is left stays small.
+pub fn nothing_more_is_over()
+    ensures { NothingMoreIsOver }
+{}
+
+/// What is ahead is the same without jobs that are over, but for their numbers: the nodes, the arcs from them, what they
+/// wait for, and the paths to them from any present moment on. So are their earliest moments, their deadlines and every
+/// cycle.
+pub fn nothing_ahead_changes()
+    ensures { NothingAheadChanges }
 {}
