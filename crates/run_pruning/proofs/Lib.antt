@@ -10,3 +10,4 @@ pub mod Marking
 pub mod Walks
 pub mod NothingMore
 pub mod RestSame
+pub mod Onward

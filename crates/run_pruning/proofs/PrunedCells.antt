@@ -155,3 +155,11 @@ module _ (marks : List Bool) where
   tidied_kept c u m t = machine_put c t m (record (machine_in c m) { cleaning = None })
       ∙ ap (λ (s : MachineState). with_machine (pruned_cell marks c t) m s)
       (machine_clean (record (machine_in c m) { cleaning = None }) refl ∙ sym (ap {B = MachineState} (λ (s : MachineState). record s { cleaning = None }) (machine_left c u m)))
+
+  -- where all that is being cleaned is so after jobs that stay, each machine is cleaned as it is
+  pub cleanings_kept : (c : Cell) (u : ℕ) → ((m s : ℕ) → cleaning c m ≡ Some s → stays marks (last_in (entries c m)) ≡ true) → (m : ℕ) → cleaning (pruned_cell marks c u) m ≡ cleaning c m
+  cleanings_kept c u after m = go (cleaning c m) refl
+    where
+      go : (o : Option ℕ) → cleaning c m ≡ o → cleaning (pruned_cell marks c u) m ≡ cleaning c m
+      go None is = cleaning_none c u m is ∙ sym is
+      go (Some s) is = cleaning_kept c u m (after m s is)

@@ -9,7 +9,7 @@ use Rattle.shop_base.specs.declared.move_order.MoveOrder.{MoveOrder}
 use Rattle.shop_base.specs.Plan.{PlannedShop, jobs, route, steps, machine_of, nominal, release, clean, Visits, IsWellShaped}
 use Rattle.shop_base.specs.Cell.{Cell, MachineState, unused, machine_in, with_machine, made, ready, since, entries, cleaning, IsOn, IsFree}
 use Rattle.shop_base.specs.Report.{at, IsNextMoment, CanReport, after_report}
-use Rattle.shop_base.specs.Move.{first_stop, spot_after, source, target, CanMove, KeepsPlan, after_leaving, with_entry, with_moved, after_move}
+use Rattle.shop_base.specs.Move.{first_stop, spot_after, source, target, CanMove, KeepsPlan, after_leaving, with_entry, with_moved, after_move, order_for}
 use Rattle.shop_base.specs.Run.{Event, Reported, Moved, CanHappen, after}
 use Rattle.shop_base.specs.Sound.{IsSound}
 use Rattle.shop_base.proofs.Visits.{visits_job, visits_apart, visits-stands, leaves_past, past_leaves}
@@ -62,6 +62,12 @@ order_parts : (j t : ℕ) (a b x y : Spot) → a ≡ b → x ≡ y
     → (let one : MoveOrder = record { job = j; source = a; target = x; at = t } in let other : MoveOrder = record { job = j; source = b; target = y; at = t } in one ≡ other)
 order_parts j t a b x y one other = rw (one, other) refl
 
+-- the report is of a job that stays; a cleaning is that of the job that entered last
+abbrev pub IsOfThose : List Bool → Cell → Report → Type 0
+IsOfThose marks c (Arrive j t) = stays marks j ≡ true
+IsOfThose marks c (Finish j m t) = stays marks j ≡ true
+IsOfThose marks c (Clean m t) = stays marks (last_in (entries c m)) ≡ true
+
 module _ (p : PlannedShop) (marks : List Bool) (count : length marks ≡ jobs p) (shaped : IsWellShaped p) (c : Cell) (sound : IsSound p c) (u : ℕ) (sooner : u ≤ c.last) where
   abbrev q : PlannedShop
   q = pruned marks p
@@ -91,9 +97,9 @@ module _ (p : PlannedShop) (marks : List Bool) (count : length marks ≡ jobs p)
   free_left m free i k on = let (j, kept, was) = was_on i k m on in free j k was
 
   -- a report of a job that stays
-  report_kept : (r : Report) (left : List ℕ) → CanReport p c r → ((m s : ℕ) → cleaning c m ≡ Some s → get_or left m 0 ≡ last_in (entries c m)) → stays marks (owner left (Reported r)) ≡ true
+  pub report_kept : (r : Report) → CanReport p c r → IsOfThose marks c r
       → CanReport q d (renamed_report marks r) × (after_report d (renamed_report marks r) ≡ pruned_cell marks (after_report c r) (at r))
-  report_kept (Arrive j t) left can tracks kept =
+  report_kept (Arrive j t) can kept =
       let awaits = can.going.1 in (
         record {
           going = (release q (new_number marks j), record { outside = made_left j kept ∙ awaits.outside; not_ready = ready_left j kept ∙ awaits.not_ready; is_due = refl });
@@ -101,7 +107,7 @@ module _ (p : PlannedShop) (marks : List Bool) (count : length marks ≡ jobs p)
         },
         sym (readied_kept marks c u j t kept),
       )
-  report_kept (Finish j m t) left can tracks kept =
+  report_kept (Finish j m t) can kept =
       let k : ℕ = can.going.1.0 in
       let works = can.going.1.1 in (
         record {
@@ -110,13 +116,19 @@ module _ (p : PlannedShop) (marks : List Bool) (count : length marks ≡ jobs p)
         },
         sym (readied_kept marks c u j t kept),
       )
-  report_kept (Clean m t) left can tracks kept =
+  report_kept (Clean m t) can kept =
       let s : ℕ = can.going.1.0 in
-      let is : cleaning c m ≡ Some s = can.going.1.1.is_cleaned in
-      let last_kept : stays marks (last_in (entries c m)) ≡ true = ap (stays marks) (sym (tracks m s is)) ∙ kept in (
-        record { going = (s + clean q m, (s, record { is_cleaned = cleaning_kept marks c u m last_kept ∙ is; is_due = refl })); moment = next_moment t can.moment },
+      let is : cleaning c m ≡ Some s = can.going.1.1.is_cleaned in (
+        record { going = (s + clean q m, (s, record { is_cleaned = cleaning_kept marks c u m kept ∙ is; is_due = refl })); moment = next_moment t can.moment },
         sym (tidied_kept marks c u m t),
       )
+
+  -- whose a report is, by the list
+  report_owner : (r : Report) (left : List ℕ) → CanReport p c r → ((m s : ℕ) → cleaning c m ≡ Some s → get_or left m 0 ≡ last_in (entries c m)) → stays marks (owner left (Reported r)) ≡ true
+      → IsOfThose marks c r
+  report_owner (Arrive j t) left can tracks kept = kept
+  report_owner (Finish j m t) left can tracks kept = kept
+  report_owner (Clean m t) left can tracks kept = ap (stays marks) (sym (tracks m can.going.1.0 can.going.1.1.is_cleaned)) ∙ kept
 
   -- a report of another
   report_dropped : (r : Report) (left : List ℕ) → CanReport p c r → ((m s : ℕ) → cleaning c m ≡ Some s → get_or left m 0 ≡ last_in (entries c m)) → stays marks (owner left (Reported r)) ≡ false
@@ -155,7 +167,7 @@ module _ (p : PlannedShop) (marks : List Bool) (count : length marks ≡ jobs p)
       target_left : target q d (new_number marks j) ≡ target p c j
       target_left = ap₂ (λ (n : ℕ) (r : List Step). first_stop (drop n r)) (made_left j kept) (route_kept p marks count j kept)
 
-      move_kept : after_move q d (new_number marks j) t ≡ pruned_cell marks (after_move p c j t) t
+      pub move_kept : after_move q d (new_number marks j) t ≡ pruned_cell marks (after_move p c j t) t
       move_kept = sym (
           moved_kept marks (with_entry (after_leaving p c (source p c j) t) j (target p c j)) u j t kept
           ∙ ap (λ (x : Cell). with_moved x (new_number marks j) t)
@@ -164,13 +176,17 @@ module _ (p : PlannedShop) (marks : List Bool) (count : length marks ≡ jobs p)
           ∙ ap₂ (λ (a b : Spot). with_entry (after_leaving q d a t) (new_number marks j) b) (sym source_left) (sym target_left))
           )
 
+      -- the order to make it names the same spots
+      pub order_left_for : order_for q d (new_number marks j) t ≡ record (order_for p c j t) { job = new_number marks j }
+      order_left_for = order_parts (new_number marks j) t (source q d (new_number marks j)) (source p c j) (target q d (new_number marks j)) (target p c j) source_left target_left
+
       next_left : (m : ℕ) → Visits p j (made c j) m → Visits q (new_number marks j) (made d (new_number marks j)) m
       next_left m next = subst (λ n. Visits q (new_number marks j) n m) (sym (made_left j kept)) (visits_kept p marks count j (made c j) m kept next)
 
       next_was : (m : ℕ) → Visits q (new_number marks j) (made d (new_number marks j)) m → Visits p j (made c j) m
       next_was m next = visits_were p marks count j (made c j) m kept (subst (λ n. Visits q (new_number marks j) n m) (made_left j kept) next)
 
-      can_left : CanMove q d (new_number marks j) t
+      pub can_left : CanMove q d (new_number marks j) t
       can_left = record {
         is_ready = ready_left j kept ∙ can.is_ready;
         way = elim can.way [
@@ -180,7 +196,7 @@ module _ (p : PlannedShop) (marks : List Bool) (count : length marks ≡ jobs p)
         moment = next_moment t can.moment;
       }
 
-      keeps_left : KeepsPlan q d (new_number marks j)
+      pub keeps_left : KeepsPlan q d (new_number marks j)
       keeps_left m next =
           let (rest, e) = keeps m (next_was m next) in (
             renumbered marks rest,
@@ -193,15 +209,13 @@ module _ (p : PlannedShop) (marks : List Bool) (count : length marks ≡ jobs p)
   pub event_kept : (e : Event) (left : List ℕ) → CanHappen p c e → ((m s : ℕ) → cleaning c m ≡ Some s → get_or left m 0 ≡ last_in (entries c m)) → stays marks (owner left e) ≡ true
       → CanHappen q d (renamed marks e) × (after q d (renamed marks e) ≡ pruned_cell marks (after p c e) (after p c e).last)
   event_kept (Reported r) left can tracks kept =
-      let (can_left, same) = report_kept r left can tracks kept in
+      let (can_left, same) = report_kept r can (report_owner r left can tracks kept) in
       (can_left, same ∙ ap (pruned_cell marks (after_report c r)) (sym (after_report-last c r)))
   event_kept (Moved o) left (obeys, keeps) tracks kept = (
     (
       record {
         can = can_left o.job o.at obeys.can keeps kept;
-        is_move = order_parts (new_number marks o.job) o.at o.source (source q d (new_number marks o.job)) o.target (target q d (new_number marks o.job))
-            (ap (λ (x : MoveOrder). x.source) obeys.is_move ∙ sym (source_left o.job o.at obeys.can keeps kept))
-            (ap (λ (x : MoveOrder). x.target) obeys.is_move ∙ sym (target_left o.job o.at obeys.can keeps kept));
+        is_move = ap {B = MoveOrder} (λ (x : MoveOrder). record x { job = new_number marks o.job }) obeys.is_move ∙ sym (order_left_for o.job o.at obeys.can keeps kept);
       },
       keeps_left o.job o.at obeys.can keeps kept,
     ),

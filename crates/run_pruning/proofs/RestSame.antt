@@ -75,7 +75,7 @@ module _ (p : PlannedShop) (marks : List Bool) (count : length marks ≡ jobs p)
   ]
 
   -- the first place ahead is that of the first one that is left
-  place_first : (m a : ℕ) → m < machines p → stays_at marks (order p m) a ≡ true → a < length (order p m) → new_place marks (order p m) a ≡ length (entries d m) → a ≡ length (entries c m)
+  pub place_first : (m a : ℕ) → m < machines p → stays_at marks (order p m) a ≡ true → a < length (order p m) → new_place marks (order p m) a ≡ length (entries d m) → a ≡ length (entries c m)
   place_first m a inside kept within same = elim (cases_order a (length (entries c m))) [
     | inl is ↦ is
     | inr (inl less) ↦ absurd (omega (arith, same, entered_left m, count_rises (stays_at marks (order p m)) a (length (entries c m)) kept less))

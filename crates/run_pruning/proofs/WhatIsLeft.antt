@@ -1,5 +1,5 @@
 -- What is left of a run without jobs that are over is a run.
-use Rattle.std.proofs.Common.{◌≡◌, ℕ, ◌-◌, ◌<◌, inl, inr, List, [], length, Option, None, Some, Bool, true, false, le_refl, refl, sym, ap, ◌∙◌, subst, arith}
+use Rattle.std.proofs.Common.{◌≡◌, ℕ, ◌-◌, ◌<◌, inl, inr, List, [], length, Some, Bool, true, false, le_refl, refl, sym, ap, ◌∙◌, subst, arith}
 use Rattle.shop_base.specs.Plan.{PlannedShop, jobs, order, job_at, IsWellShaped}
 use Rattle.shop_base.specs.Cell.{Cell, job_in, made, entries, cleaning}
 use Rattle.shop_base.specs.Run.{Event, IsRun, ends_in}
@@ -13,7 +13,7 @@ use Rattle.run_pruning.specs.Pruned.{pruned, last_in, pruned_cell}
 use Rattle.run_pruning.specs.Over.{IsOver, DropsWhatIsOver, DropsAllThatIsOver}
 use Rattle.run_pruning.specs.PruningLaw.{pruned_run, run_owner, IsWhatIsLeft, WhatIsLeftIsARun}
 use Rattle.run_pruning.proofs.PrunedShops.{pruned-shaped}
-use Rattle.run_pruning.proofs.PrunedCells.{cleaning_kept, cleaning_none, job_left}
+use Rattle.run_pruning.proofs.PrunedCells.{cleanings_kept, job_left}
 use Rattle.run_pruning.proofs.PrunedRuns.{IsLatest, their_run, last_place, run_owner_in}
 use Rattle.run_pruning.proofs.PrunedReports.{reports_left_same}
 
@@ -53,7 +53,7 @@ module _ (p : PlannedShop) (es : List Event) (marks : List Bool) (shaped : IsWel
   ]
 
   -- a machine is being cleaned after a job that stays
-  cleaned_stays : (m s : ℕ) → cleaning c m ≡ Some s → stays marks (last_in (entries c m)) ≡ true
+  pub cleaned_stays : (m s : ℕ) → cleaning c m ≡ Some s → stays marks (last_in (entries c m)) ≡ true
   cleaned_stays m s is = go (stays marks (last_in (entries c m))) refl
     where
       place : (length (entries c m) - 1 < length (order p m)) × (last_in (entries c m) ≡ job_at p m (length (entries c m) - 1))
@@ -67,11 +67,7 @@ module _ (p : PlannedShop) (es : List Event) (marks : List Bool) (shaped : IsWel
       go false dropped = absurd ((drops.over (last_in (entries c m)) inside dropped).not_cleaned m (record { from = s; is_cleaned = is; last_in = sym place.1 }))
 
   cleanings : (u m : ℕ) → cleaning (pruned_cell marks c u) m ≡ cleaning c m
-  cleanings u m = go (cleaning c m) refl
-    where
-      go : (o : Option ℕ) → cleaning c m ≡ o → cleaning (pruned_cell marks c u) m ≡ cleaning c m
-      go None is = cleaning_none marks c u m is ∙ sym is
-      go (Some s) is = cleaning_kept marks c u m (cleaned_stays m s is)
+  cleanings u = cleanings_kept marks c u cleaned_stays
 
   left : IsWhatIsLeft marks p es
   left =

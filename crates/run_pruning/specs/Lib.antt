@@ -5,4 +5,5 @@ pub mod PrunedEvents
 pub mod Over
 pub mod PruningLaw
 pub mod RestLaw
+pub mod OnwardLaw
 pub mod Numbers

@@ -3,7 +3,7 @@
 // Nothing is done here: a function's contract is the law, so a check of this crate proves it.
 
 ghost use Rattle.run_pruning.specs.PruningLaw.{AnyJobsHaveTheirRun, WhatIsLeftIsARun, NothingMoreIsOver};
-ghost use Rattle.run_pruning.specs.RestLaw.{NothingAheadChanges};
+ghost use Rattle.run_pruning.specs.{RestLaw.NothingAheadChanges, OnwardLaw.TheRunGoesOnRenamed};
 
 /// Whatever jobs stay, at least one, the planned shop of them alone is well shaped, and their events are a run of it, which
 /// ends in the cell without the others. A job may visit a machine again.
@@ -27,4 +27,10 @@ pub fn nothing_more_is_over()
 /// cycle.
 pub fn nothing_ahead_changes()
     ensures { NothingAheadChanges }
+{}
+
+/// From every present moment on each controlled run is one of the plan without jobs that are over, by the new numbers, and
+/// the other way round. So the cell is driven on as before.
+pub fn the_run_goes_on_renamed()
+    ensures { TheRunGoesOnRenamed }
 {}
