@@ -39,6 +39,19 @@ at_same marks (Arrive j t) = refl
 at_same marks (Finish j m t) = refl
 at_same marks (Clean m t) = refl
 
+-- renamed events, and then renamed events
+both_renamed : (marks : List Bool) (xs es ys fs : List Event) → xs ≡ map (renamed marks) es → ys ≡ map (renamed marks) fs → xs ++ ys ≡ map (renamed marks) (es ++ fs)
+both_renamed marks xs es ys fs one other = ap₂ {C = List Event} (λ zs ws. zs ++ ws) one other ∙ sym (map-append (renamed marks) es fs)
+
+-- a renamed report, and then both
+step_renamed : (marks : List Bool) (r : Report) (gs xs es ys fs : List Event) → gs ≡ Reported (renamed_report marks r) ∷ (xs ++ ys) → xs ≡ map (renamed marks) es → ys ≡ map (renamed marks) fs
+    → gs ≡ map (renamed marks) (Reported r ∷ (es ++ fs))
+step_renamed marks r gs xs es ys fs whole one other = whole ∙ ap {B = List Event} (λ zs. Reported (renamed_report marks r) ∷ zs) (both_renamed marks xs es ys fs one other)
+
+-- a number, and then numbers
+cons_same : (x y : ℕ) (xs ys : List ℕ) → x ≡ y → xs ≡ ys → x ∷ xs ≡ y ∷ ys
+cons_same x y xs ys one other = ap₂ {C = List ℕ} (λ z zs. z ∷ zs) one other
+
 module _ (p : PlannedShop) (marks : List Bool) (count : length marks ≡ jobs p) (shaped : IsWellShaped p) (shaped_left : IsWellShaped (pruned marks p)) where
   abbrev q : PlannedShop
   q = pruned marks p
@@ -210,7 +223,7 @@ module _ (p : PlannedShop) (marks : List Bool) (count : length marks ≡ jobs p)
       move_kept p marks count shaped c on.sound c.last (le_refl c.last) j t can_here keeps_here kept in
       let same : after_move q (left c) k t ≡ left (after_move p c j t) = one ∙ other in
       let (js, rest, here) = moves_back (after_move p c j t) t ks (onward_moved c on j t can_here keeps_here) (subst (λ x. AreMoves q x t ks) same moves) in
-      (j ∷ js, ap₂ {C = List ℕ} (λ x xs. x ∷ xs) (sym is) rest, (can_here, keeps_here, here))
+      (j ∷ js, cons_same k (new_number marks j) ks (map (new_number marks) js) (sym is) rest, (can_here, keeps_here, here))
 
   leads_left : (c : Cell) (rs : List Report) (es : List Event) (end : Cell) → IsOnward c → Leads p c rs es end → NameNoOthers marks rs
       → Leads q (left c) (map (renamed_report marks) rs) (map (renamed marks) es) (left end)
@@ -232,7 +245,7 @@ module _ (p : PlannedShop) (marks : List Bool) (count : length marks ≡ jobs p)
       } in
       let later = leads_left (after_step p c r js) rs es end there.onward leads names in
       subst (λ fs. Leads q (left c) (renamed_report marks r ∷ map (renamed_report marks) rs) (Reported (renamed_report marks r) ∷ fs) (left end))
-      (ap (λ fs. fs ++ map (renamed marks) es) events ∙ sym (map-append (renamed marks) (moved (step_orders p c r js)) es))
+      (both_renamed marks (moved (step_orders q (left c) (renamed_report marks r) (map (new_number marks) js))) (moved (step_orders p c r js)) (map (renamed marks) es) es events refl)
       (accepted (left c) (renamed_report marks r) (map (new_number marks) js) (map (renamed_report marks) rs) (map (renamed marks) es) (left end) step_left
       (subst (λ x. Leads q x (map (renamed_report marks) rs) (map (renamed marks) es) (left end)) (sym cell) later))
   leads_left _ _ _ _ on (refused c r rs es end cannot leads) (name, names) =
@@ -264,7 +277,7 @@ module _ (p : PlannedShop) (marks : List Bool) (count : length marks ≡ jobs p)
         let (fs, end, one, other, was) = leads_back (after_step p c r js) rs led.rest last there.onward names (subst (λ x. Leads q x (map (renamed_report marks) rs) led.rest last) cell led.leads) in (
           Reported r ∷ (moved (step_orders p c r js) ++ fs),
           end,
-          led.events ∙ ap₂ (λ xs ys. Reported (renamed_report marks r) ∷ (xs ++ ys)) events one ∙ ap (λ xs. Reported (renamed_report marks r) ∷ xs) (sym (map-append (renamed marks) (moved (step_orders p c r js)) fs)),
+          step_renamed marks r gs (moved (step_orders q (left c) (renamed_report marks r) led.jobs)) (moved (step_orders p c r js)) led.rest fs led.events events one,
           other,
           accepted c r js rs fs end step was,
         ))
@@ -280,7 +293,7 @@ module _ (p : PlannedShop) (marks : List Bool) (count : length marks ≡ jobs p)
         quiescent = subst (λ x. IsAtRest q x) (sym there.cell) (rest_left (after_moves p c t js) there.onward settles.quiescent);
       } in
       subst (λ fs. GoesOnTo q (left c) t (map (renamed_report marks) rs) fs (left end))
-      (ap (λ fs. fs ++ map (renamed marks) es) there.events ∙ sym (map-append (renamed marks) (moved (orders_for p c t js)) es))
+      (both_renamed marks (moved (orders_for q (left c) t (map (new_number marks) js))) (moved (orders_for p c t js)) (map (renamed marks) es) es there.events refl)
       (settled (map (new_number marks) js) (map (renamed_report marks) rs) (map (renamed marks) es) (left end) settles_left
       (subst (λ x. Leads q x (map (renamed_report marks) rs) (map (renamed marks) es) (left end)) (sym there.cell) later))
 
@@ -297,7 +310,7 @@ module _ (p : PlannedShop) (marks : List Bool) (count : length marks ≡ jobs p)
       let (fs, end, one, other, was) = leads_back (after_moves p c t js) rs es last there.onward names (subst (λ xs. Leads q (left (after_moves p c t js)) xs es last) same (subst (λ x. Leads q x others es last) cell leads)) in (
         moved (orders_for p c t js) ++ fs,
         end,
-        ap₂ (λ xs ys. xs ++ ys) (ap (λ x. moved (orders_for q (left c) t x)) is ∙ there.events) one ∙ sym (map-append (renamed marks) (moved (orders_for p c t js)) fs),
+        both_renamed marks (moved (orders_for q (left c) t ks)) (moved (orders_for p c t js)) es fs (ap (λ x. moved (orders_for q (left c) t x)) is ∙ there.events) one,
         other,
         settled js rs fs end settles_here was,
       )

@@ -1,4 +1,4 @@
-use Rattle.std.proofs.Common.{◌<◌, length, is_some, sym, ap, subst, arith}
+use Rattle.std.proofs.Common.{ℕ, ◌<◌, List, length, Option, is_some, sym, ap, subst, arith}
 use Rattle.std.proofs.lemmas.List.{length-map}
 use Rattle.shop_base.specs.declared.limits.TheConstants.{MAX_JOBS}
 use Rattle.shop_base.proofs.Counting.{count_within}
@@ -21,5 +21,5 @@ next_count-count-requires c =
 pub invariant_of-self-2 : goal.invariant_of-self-2
 invariant_of-self-2 c =
     let few : length c.self.inside.numbers.items < MAX_JOBS = omega (arith, c.requires, ap length c.self.view_is, length-map c.self.inside.numbers.items (λ n. is_some n)) in
-    subst (λ xs. AreNumbers xs c.next_count-count.result) (sym c.in_ok-push.ensures.items)
+    subst (λ xs. AreNumbers xs c.next_count-count.result) (sym {A = List (Option ℕ)} c.in_ok-push.ensures.items)
     (numbers_more c.self.inside.numbers.items c.self.inside.count c.next_count-count.result c.args.stays c.next_number.result c.self.invariant few c.next_number.ensures c.next_count-count.ensures)
