@@ -5,11 +5,11 @@
 #![tactic(auto)]
 
 mod finding;
-mod forgetting;
 mod kept_jobs;
 pub mod laws;
 mod leavers;
+mod left_run;
 mod pruning;
 
-pub use forgetting::{LeftRun, forget};
 pub use kept_jobs::KeptJobs;
+pub use left_run::{LeftRun, left_run};

@@ -23,7 +23,7 @@ pub struct LeftRun {
 
 /// What is left of a run without the jobs that are over at its end, of which these are the entries and this is the cell.
 /// All else stays, by new numbers. It takes time linear in the entries and in the plan.
-pub fn forget<P: Planned>(
+pub fn left_run<P: Planned>(
     alloc: Global,
     cell: &WorkCell<P>,
     entries: &[Entry],
