@@ -23,7 +23,7 @@ pub(crate) fn jobs_to_keep<P: Planned>(
         IfOk result (DropsAllThatIsOver cell.now.plan cell.now.cell last) }
 {
     let last = last_owner(alloc, cell.machine_count(), entries)?;
-    let mut kept = KeptJobs::none(alloc);
+    let mut kept = KeptJobs::new(alloc);
     for job in 0..cell.job_count() {
         kept.note(!is_over(cell, last, job))?;
     }

@@ -28,7 +28,7 @@ impl Model for KeptJobs {
 
 impl KeptJobs {
     /// Of no jobs.
-    pub(crate) fn none(alloc: Global) -> KeptJobs
+    pub(crate) fn new(alloc: Global) -> KeptJobs
         ensures { result ≡ [] }
     {
         KeptJobs {

@@ -8,8 +8,8 @@ mod finding;
 mod kept_jobs;
 pub mod laws;
 mod leavers;
-mod left_run;
 mod pruning;
+mod what_is_left;
 
 pub use kept_jobs::KeptJobs;
-pub use left_run::{LeftRun, left_run};
+pub use what_is_left::{LeftRun, left_run};

@@ -2,7 +2,7 @@ use Rattle.std.proofs.Common.{sym, subst}
 use Rattle.cell_tables.specs.Events.{events_of}
 use Rattle.run_pruning.specs.PruningLaw.{IsChoice}
 use Rattle.run_pruning.proofs.WhatIsLeft.{left_over}
-use Rattle.run_pruning.proofs.left_run.left_run.Goals as goal
+use Rattle.run_pruning.proofs.what_is_left.left_run.Goals as goal
 
 pub prune-requires : goal.prune-requires
 prune-requires g c =
