@@ -1,0 +1,2 @@
+-- Reached by public clauses: to be read and believed.
+pub mod Chapters

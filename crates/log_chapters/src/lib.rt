@@ -1,0 +1,9 @@
+//! A log that begins with its own texts: those of its shop, of its plan and of its names, what each job was before, and
+//! the events of its run so far. Every reader of logs passes over the lines of the texts.
+#![tactic(auto)]
+
+mod parts;
+mod writing;
+
+pub use parts::{Origin, Texts};
+pub use writing::chapter;
