@@ -7,7 +7,7 @@ use Rattle.std.proofs.lemmas.List.{map-append, length-map}
 use Rattle.shop_base.specs.declared.limits.TheConstants.{MAX_JOBS}
 use Rattle.shop_base.proofs.Counting.{count_same, count_passed, count_failed}
 use Rattle.run_pruning.specs.Staying.{stays, new_number}
-use Rattle.run_pruning.specs.Numbers.{number_of, marks_of, AreNumbers}
+use Rattle.run_pruning.specs.Numbers.{number_if_kept, marks_of, AreNumbers}
 
 module _ (marks : List Bool) (b : Bool) where
   -- the others stay as they did
@@ -21,10 +21,10 @@ module _ (marks : List Bool) (b : Bool) where
   number_before n within = count_same (stays (marks ++ b ∷ [])) (stays marks) n (λ i less. stays_before i (omega (arith, within)))
 
   -- and so have their numbers
-  number_of_before : (j : ℕ) → j < length marks → number_of (marks ++ b ∷ []) j ≡ number_of marks j
+  number_of_before : (j : ℕ) → j < length marks → number_if_kept (marks ++ b ∷ []) j ≡ number_if_kept marks j
   number_of_before j less = ap₂ (λ (x : Bool) (n : ℕ). if x then Some n else None) (stays_before j less) (number_before j (omega (arith, less)))
 
-  number_of_last : number_of (marks ++ b ∷ []) (length marks) ≡ (if b then Some (new_number marks (length marks)) else None)
+  number_of_last : number_if_kept (marks ++ b ∷ []) (length marks) ≡ (if b then Some (new_number marks (length marks)) else None)
   number_of_last = ap₂ (λ (x : Bool) (n : ℕ). if x then Some n else None) stays_last (number_before (length marks) (omega arith))
 
   count_more : new_number (marks ++ b ∷ []) (suc (length marks)) ≡ new_number marks (length marks) + cond b 1 0
@@ -47,10 +47,10 @@ pub numbers_more : (numbers : List (Option ℕ)) (count next : ℕ) (b : Bool) (
     → next ≡ count + cond b 1 0 → AreNumbers (numbers ++ o ∷ []) next
 numbers_more numbers count next b o are few is more = record {
   each = λ j less. elim (cases_lt j (length numbers)) [
-    | inl inside ↦ get_or-append numbers (o ∷ []) None j inside ∙ are.each j inside ∙ sym (number_of_before (marks_of numbers) b j (omega (arith, inside, size))) ∙ sym (ap (λ ms. number_of ms j) marks)
+    | inl inside ↦ get_or-append numbers (o ∷ []) None j inside ∙ are.each j inside ∙ sym (number_of_before (marks_of numbers) b j (omega (arith, inside, size))) ∙ sym (ap (λ ms. number_if_kept ms j) marks)
     | inr past ↦ (let last : j ≡ length numbers = omega (arith, less, past, length-append numbers (o ∷ [])) in
         ap (λ x. get_or (numbers ++ o ∷ []) x None) last ∙ get_or-append_seam numbers o [] None ∙ is ∙ ap (λ n. if b then Some n else None) (are.all ∙ ap (new_number (marks_of numbers)) (sym size))
-        ∙ sym (number_of_last (marks_of numbers) b) ∙ ap (number_of (marks_of numbers ++ b ∷ [])) (size ∙ sym last) ∙ sym (ap (λ ms. number_of ms j) marks))
+        ∙ sym (number_of_last (marks_of numbers) b) ∙ ap (number_if_kept (marks_of numbers ++ b ∷ [])) (size ∙ sym last) ∙ sym (ap (λ ms. number_if_kept ms j) marks))
   ];
   all = omega (
     arith,
@@ -74,7 +74,7 @@ numbers_more numbers count next b o are few is more = record {
     longer = omega (arith, size, length-append numbers (o ∷ []))
 
 -- there is a number where the job stays
-pub number_stays : (marks : List Bool) (j : ℕ) (o : Option ℕ) (b : Bool) → o ≡ number_of marks j → is_some o ≡ b → stays marks j ≡ b
+pub number_stays : (marks : List Bool) (j : ℕ) (o : Option ℕ) (b : Bool) → o ≡ number_if_kept marks j → is_some o ≡ b → stays marks j ≡ b
 number_stays marks j o b is mark = go (stays marks j) refl
   where
     go : (x : Bool) → stays marks j ≡ x → stays marks j ≡ b

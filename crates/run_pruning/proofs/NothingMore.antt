@@ -11,7 +11,7 @@ use Rattle.shop_base.proofs.Keeping.{after-sound, start-sound, run-sound}
 use Rattle.run_pruning.specs.Staying.{stays, new_number, renumbered}
 use Rattle.run_pruning.specs.Pruned.{pruned, last_in, pruned_cell}
 use Rattle.run_pruning.specs.PrunedEvents.{owner, left_after, last_owner, renamed, pruned_events}
-use Rattle.run_pruning.specs.Over.{IsOver}
+use Rattle.run_pruning.specs.Over.{IsJobOver}
 use Rattle.run_pruning.specs.PruningLaw.{nobody_left, pruned_run, run_owner, IsWhatIsLeft, NothingMoreIsOver}
 use Rattle.run_pruning.proofs.Left.{stays_at, new_place, renumbered_at, length-renumbered}
 use Rattle.run_pruning.proofs.PrunedShops.{old_job, route_kept}
@@ -96,8 +96,8 @@ nothing_more_is_over-holds p es marks shaped run drops i inside over =
     let sound : IsSound p c = run-sound p es shaped run in
     let sound_left : IsSound q d = run-sound q (pruned_run marks p es) left.shaped left.run in
     let (j, less, kept, is) = old_job p marks drops.count i inside in
-    let mine : IsOver q d (run_owner q (pruned_run marks p es)) (new_number marks j) = subst (λ x. IsOver q d (run_owner q (pruned_run marks p es)) x) (sym is) over in
-    let was : IsOver p c (run_owner p es) j = record {
+    let mine : IsJobOver q d (run_owner q (pruned_run marks p es)) (new_number marks j) = subst (λ x. IsJobOver q d (run_owner q (pruned_run marks p es)) x) (sym is) over in
+    let was : IsJobOver p c (run_owner p es) j = record {
       gone = omega (arith, mine.gone, ap length (route_kept p marks drops.count j kept), ap (λ (x : JobState). x.made) (left.jobs_same j kept));
       not_cleaned = λ m cleaned.
           let some : 0 < length (entries c m) = sound.cleaned_entered m cleaned.from cleaned.is_cleaned in

@@ -10,7 +10,7 @@ use Rattle.cell_tables.specs.Events.{event_of, events_of}
 use Rattle.cell_tables.specs.Readings.{IsCleanedAfter, IsCleanedFor}
 use Rattle.run_pruning.specs.Staying.{stays, staying}
 use Rattle.run_pruning.specs.PrunedEvents.{owner, left_after, renamed, pruned_events}
-use Rattle.run_pruning.specs.Over.{IsOver, DropsOver}
+use Rattle.run_pruning.specs.Over.{IsJobOver, DropsOver}
 use Rattle.run_pruning.proofs.Marking.{stays_before, stays_last}
 
 -- what is left from a place on, where the job there stays or doesn't
@@ -43,24 +43,24 @@ cleaned_found p c m j (Some i) found after = ap Some (sym found.last_in ∙ afte
 
 -- where a job is gone and wasn't the last, it is over unless a machine is being cleaned after it
 pub over_unless : (p : PlannedShop) (c : Cell) (last : Option ℕ) (j : ℕ) (b : Bool) → IsGone p c j → (last ≡ Some j → ⊥)
-    → MatchBool b ((m : ℕ) × IsCleanedAfter p c m j) ((m : ℕ) → IsCleanedAfter p c m j → ⊥) → IsTrue (not b) ↔ IsOver p c last j
+    → MatchBool b ((m : ℕ) × IsCleanedAfter p c m j) ((m : ℕ) → IsCleanedAfter p c m j → ⊥) → IsTrue (not b) ↔ IsJobOver p c last j
 over_unless p c last j true gone other cleaned = (λ t. absurd (cc), λ over. absurd (over.not_cleaned cleaned.0 cleaned.1))
 over_unless p c last j false gone other none = (λ t. record { gone = gone; not_cleaned = none; not_last = other }, λ over. refl)
 
 -- one job more
-pub drops_more : (p : PlannedShop) (c : Cell) (last : Option ℕ) (n : ℕ) (marks : List Bool) (b : Bool) → (IsTrue b ↔ IsOver p c last n) → DropsOver p c last n marks
+pub drops_more : (p : PlannedShop) (c : Cell) (last : Option ℕ) (n : ℕ) (marks : List Bool) (b : Bool) → (IsTrue b ↔ IsJobOver p c last n) → DropsOver p c last n marks
     → DropsOver p c last (n + 1) (marks ++ not b ∷ [])
 drops_more p c last n marks b is drops = record {
   count = omega (arith, drops.count, length-append marks (not b ∷ []));
   exact = λ j less. elim (cases_lt j n) [
-    | inl before ↦ subst (λ x. (x ≡ false) ↔ IsOver p c last j) (sym (stays_before marks (not b) j (omega (arith, before, drops.count)))) (drops.exact j before)
+    | inl before ↦ subst (λ x. (x ≡ false) ↔ IsJobOver p c last j) (sym (stays_before marks (not b) j (omega (arith, before, drops.count)))) (drops.exact j before)
     | inr past ↦ (let here : n ≡ j = omega (arith, past, less) in
-        subst (λ x. (stays (marks ++ not b ∷ []) x ≡ false) ↔ IsOver p c last x) here
-        (subst (λ x. (x ≡ false) ↔ IsOver p c last n) (sym (ap (stays (marks ++ not b ∷ [])) (sym drops.count) ∙ stays_last marks (not b))) (go b is)))
+        subst (λ x. (stays (marks ++ not b ∷ []) x ≡ false) ↔ IsJobOver p c last x) here
+        (subst (λ x. (x ≡ false) ↔ IsJobOver p c last n) (sym (ap (stays (marks ++ not b ∷ [])) (sym drops.count) ∙ stays_last marks (not b))) (go b is)))
   ];
 }
   where
-    go : (x : Bool) → (IsTrue x ↔ IsOver p c last n) → (not x ≡ false) ↔ IsOver p c last n
+    go : (x : Bool) → (IsTrue x ↔ IsJobOver p c last n) → (not x ≡ false) ↔ IsJobOver p c last n
     go true both = (λ t. both.0 refl, λ over. refl)
     go false both = (λ t. absurd (cc), λ over. sym (both.1 over))
 

@@ -10,7 +10,7 @@ use Rattle.shop_base.proofs.Keeping.{start-made, run-sound}
 use Rattle.shop_base.proofs.Sizes.{place_job}
 use Rattle.run_pruning.specs.Staying.{stays, new_number}
 use Rattle.run_pruning.specs.Pruned.{pruned, last_in, pruned_cell}
-use Rattle.run_pruning.specs.Over.{IsOver, DropsWhatIsOver, DropsAllThatIsOver}
+use Rattle.run_pruning.specs.Over.{IsJobOver, DropsWhatIsOver, DropsAllThatIsOver}
 use Rattle.run_pruning.specs.PruningLaw.{pruned_run, run_owner, IsWhatIsLeft, WhatIsLeftIsARun}
 use Rattle.run_pruning.proofs.PrunedShops.{pruned-shaped}
 use Rattle.run_pruning.proofs.PrunedCells.{cleanings_kept, job_left}
@@ -93,5 +93,5 @@ pub left_over : (p : PlannedShop) (end : Cell) (es : List Event) (marks : List B
     → IsWhatIsLeft marks p es
 left_over p end es marks shaped run ends drops = what_is_left_is_a_run-holds p es marks shaped run (record {
   count = drops.count;
-  over = λ j inside dropped. subst (λ x. IsOver p x (run_owner p es) j) (sym ends) ((drops.exact j inside).0 dropped);
+  over = λ j inside dropped. subst (λ x. IsJobOver p x (run_owner p es) j) (sym ends) ((drops.exact j inside).0 dropped);
 })

@@ -5,7 +5,7 @@ use Rattle.shop_base.specs.Cell.{job_in, cleaning}
 use Rattle.shop_base.specs.Run.{Event, IsRun, ends_in}
 use Rattle.shop_base.specs.ReportsLeft.{reports_left}
 use Rattle.run_pruning.specs.Staying.{stays, new_number}
-use Rattle.run_pruning.specs.{Pruned.pruned, Pruned.pruned_cell, Over.IsOver, Over.DropsWhatIsOver, Over.DropsAllThatIsOver}
+use Rattle.run_pruning.specs.{Pruned.pruned, Pruned.pruned_cell, Over.IsJobOver, Over.DropsWhatIsOver, Over.DropsAllThatIsOver}
 use Rattle.run_pruning.specs.PrunedEvents.{pruned_events, last_owner}
 
 -- before a run nobody has left a machine, and there is no cleaning to be told whose
@@ -58,4 +58,4 @@ WhatIsLeftIsARun = (p : PlannedShop) (es : List Event) (marks : List Bool) → I
 -- nothing more is over: of what is left of a run without all jobs that are over, no job is
 abbrev pub NothingMoreIsOver : Type 0
 NothingMoreIsOver = (p : PlannedShop) (es : List Event) (marks : List Bool) → IsWellShaped p → IsRun p es → DropsAllThatIsOver p (ends_in p es) (run_owner p es) marks
-    → (i : ℕ) → i < jobs (pruned marks p) → IsOver (pruned marks p) (ends_in (pruned marks p) (pruned_run marks p es)) (run_owner (pruned marks p) (pruned_run marks p es)) i → ⊥
+    → (i : ℕ) → i < jobs (pruned marks p) → IsJobOver (pruned marks p) (ends_in (pruned marks p) (pruned_run marks p es)) (run_owner (pruned marks p) (pruned_run marks p es)) i → ⊥

@@ -3,7 +3,7 @@
 ghost use Rattle.std.specs.Prelude.{◌≡◌, ℕ, ◌<◌, ◌↔◌, IsTrue, MatchBool, IfOk};
 ghost use Rattle.shop_base.specs.Plan.{jobs};
 ghost use Rattle.cell_tables.specs.{Events.events_of, Readings.IsCleanedAfter};
-ghost use Rattle.run_pruning.specs.Over.{IsOver, DropsAllThatIsOver};
+ghost use Rattle.run_pruning.specs.Over.{IsJobOver, DropsAllThatIsOver};
 ghost use Rattle.run_pruning.specs.PruningLaw.{run_owner};
 
 use crate::kept_jobs::KeptJobs;
@@ -33,7 +33,7 @@ pub(crate) fn jobs_to_keep<P: Planned>(
 /// Whether the job is over, where `last` is the job whose the last event is.
 fn is_over<P: Planned>(cell: &WorkCell<P>, last: Option<JobNo>, job: JobNo) -> bool
     requires { job < jobs cell.now.plan }
-    ensures { IsTrue result ↔ IsOver cell.now.plan cell.now.cell last job }
+    ensures { IsTrue result ↔ IsJobOver cell.now.plan cell.now.cell last job }
 {
     if last == Some(job) || cell.job_state(job).made <= cell.step_count(job) {
         return false;

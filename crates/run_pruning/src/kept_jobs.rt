@@ -2,7 +2,7 @@
 
 ghost use Rattle.std.specs.Prelude.{◌≡◌, ◌+◌, ◌<◌, ◌≤◌, ◌++◌, ◌∷◌, [], length, OnOk, Some, None, cond, if◌then◌else◌};
 ghost use Rattle.shop_base.specs.declared.limits.TheConstants.{MAX_JOBS};
-ghost use Rattle.run_pruning.specs.Numbers.{number_of};
+ghost use Rattle.run_pruning.specs.Numbers.{number_if_kept};
 
 use shop_base::JobNo;
 use std::alloc::{AllocError, Global};
@@ -50,7 +50,7 @@ impl KeptJobs {
 
     /// The new number of a job; `None` if it doesn't stay.
     pub fn number_of(&self, job: JobNo) -> Option<JobNo>
-        ensures { result ≡ number_of self.now job }
+        ensures { result ≡ number_if_kept self.now job }
     {
         match self.numbers.get(job as usize) {
             Some(number) => *number,
