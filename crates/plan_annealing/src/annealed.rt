@@ -6,46 +6,25 @@ ghost use Rattle.shop_base.specs.Vectors.{lists_of};
 use crate::annealing::anneal;
 use crate::draws::Draws;
 use crate::moves::Moves;
-use crate::net::Net;
-use crate::net_of_plan::{net_of, orders_of};
 use crate::passing::Pass;
-use shop_base::{JobNo, Moment, Shaped};
+use plan_net::{Net, PartAhead, net_of, orders_of};
+use shop_base::{JobNo, Shaped};
 use std::alloc::{AllocError, Global};
 
-/// What a run has left of a plan: how each job goes on, and which machines are being cleaned. It is the same whatever
-/// the orders of the entries ahead are.
-#[derive(Drop)]
-pub struct Rest {
-    /// How each job goes on.
-    pub jobs: Vec<JobRest>,
-    /// Since when each machine is being cleaned, if it is.
-    pub cleanings: Vec<Option<Moment>>,
-}
-
-/// How a job goes on.
-#[derive(Clone, Copy)]
-pub struct JobRest {
-    /// How many moves it has made: one for each step that it has entered, and one more once it has left.
-    pub made: u32,
-    /// The moment before which it doesn't make its next one, in time units from moment 0; of a job that has left, that
-    /// at which it did.
-    pub bound: Moment,
-}
-
 /// The order of each machine in the best plan that an annealing from this one meets; `None` if this one is the best. In
-/// a neighbour of a plan two jobs that meet on a critical path have changed places there, for one visit of each, and one
-/// of the two has moved at other visits where it had to. Better is a lesser total lateness or, with the same, a lesser
-/// makespan. Every fourth round (1, 5, ..) is hotter, and all late jobs count in it. The others are cooler from the third
-/// round on, if no job is late and there are more than 100 operations; where a job visits a machine again ahead, they
-/// begin as hot as that. A round looks at some 20 million nodes at most, and tries no more neighbours than 50 times the
-/// square of the number of operations. Other seeds and rounds draw other neighbours, and the same ones draw the same
-/// again. Where the rest of a run is given, only entries that are ahead are exchanged, a job that is gone is never
-/// late, and no job makes its next move before its bound. It is proved only that there are as many orders as machines,
-/// each with as many places as in this plan, or none.
+/// a neighbour of a plan two jobs that meet on a critical path have changed places there, for one visit of each, and
+/// one of the two has moved at other visits where it had to. Better is a lesser total lateness or, with the same, a
+/// lesser makespan. Every fourth round (1, 5, ..) is hotter, and all late jobs count in it. The others are cooler from
+/// the third round on, if no job is late and there are more than 100 operations; where a job visits a machine again
+/// ahead, they begin as hot as that. A round looks at some 20 million nodes at most, and tries no more neighbours than
+/// 50 times the square of the number of operations. Other seeds and rounds draw other neighbours, and the same ones
+/// draw the same again. Where the rest of a run is given, only entries that are ahead are exchanged, a job that is gone
+/// is never late, and no job makes its next move before its bound. It is proved only that there are as many orders as
+/// machines, each with as many places as in this plan, or none.
 pub fn annealed_orders(
     alloc: Global,
     shaped: &Shaped,
-    rest: Option<&Rest>,
+    rest: Option<&PartAhead>,
     seed: u32,
     round: u32,
 ) -> Result<Option<Vec<Vec<JobNo>>>, AllocError>

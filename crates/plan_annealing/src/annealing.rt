@@ -3,11 +3,11 @@
 use crate::draws::Draws;
 use crate::heat::Heat;
 use crate::moves::Moves;
-use crate::net::{NONE, Net, count};
 use crate::passing::Pass;
 use crate::price::{Aim, Price};
 use crate::timing::Part;
 use crate::turning::{move_left, move_right};
+use plan_net::{NONE, Net, count};
 use shop_base::Moment;
 
 /// In how many steps the temperature falls.

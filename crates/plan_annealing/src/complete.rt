@@ -1,11 +1,11 @@
 //! A complete search, depth first, over the open pairs of a shop: each is decided one way and, where that fails, the
 //! other way.
 
-use crate::net::{NONE, count};
 use crate::pairs::{Pairs, room_between};
 use crate::propagation::{Decision, NO_DECISION, Propagation};
 use crate::standing::Lateness;
 use crate::visits::{Visits, number_at};
+use plan_net::{NONE, count};
 use shop_base::Moment;
 use std::alloc::{AllocError, Global};
 

@@ -1,7 +1,7 @@
 //! An estimate of what a plan weighs once two jobs have changed places, by the moments of the plan before.
 
-use crate::net::{Spot, spot_at};
 use crate::timing::{Row, head_in, tail_in};
+use plan_net::{Spot, spot_at};
 use shop_base::Moment;
 
 /// An estimate of what the plan weighs once the job that enters here comes before the one now before it: the length of

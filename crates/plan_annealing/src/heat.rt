@@ -2,7 +2,8 @@
 
 /// How hot a round begins. A hot one gets away from a plan that the others can't leave. A cool one keeps most of the
 /// plan that it begins with: if there are many steps, a warm round looks at too few plans to find a better one again.
-/// Where a job visits a machine again, such rounds don't get away from the plan that they begin with, so each begins hot.
+/// Where a job visits a machine again, such rounds don't get away from the plan that they begin with, so each begins
+/// hot.
 #[derive(Clone, Copy, PartialEq, Eq)]
 pub(crate) enum Heat {
     Warm,

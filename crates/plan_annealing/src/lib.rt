@@ -1,5 +1,6 @@
-//! Two searches for better plans, or for a better rest of a run: simulated annealing over the orders of the machines, and
-//! a large neighbourhood search that decides the pairs of a few jobs anew. Whoever asks for their orders judges them.
+//! Two searches for better plans, or for a better rest of a run: simulated annealing over the orders of the machines,
+//! and a large neighbourhood search that decides the pairs of a few jobs anew. Whoever asks for their orders judges
+//! them.
 #![tactic(auto)]
 
 mod annealed;
@@ -12,8 +13,6 @@ mod heat;
 mod known;
 mod moves;
 mod neighbours;
-mod net;
-mod net_of_plan;
 mod opened;
 mod opening;
 mod pairs;
@@ -27,6 +26,6 @@ mod timing;
 mod turning;
 mod visits;
 
-pub use annealed::{JobRest, Rest, annealed_orders};
+pub use annealed::annealed_orders;
 pub use known::Known;
 pub use opened::{can_open, opened_orders};

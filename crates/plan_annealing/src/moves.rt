@@ -1,8 +1,8 @@
 //! What a move keeps in mind: its swaps, and the nodes that are still to be looked at.
 
 use crate::estimate::weight_after_swap;
-use crate::net::{NONE, Net, spot_at, swap};
 use crate::timing::Row;
+use plan_net::{NONE, Net, spot_at, swap};
 use shop_base::Moment;
 use std::alloc::{AllocError, Global};
 

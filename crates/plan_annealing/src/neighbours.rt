@@ -1,7 +1,7 @@
 //! The neighbours of a plan, and what is known of them.
 
-use crate::net::{NONE, Spot, count, spot_at};
 use crate::timing::Row;
+use plan_net::{NONE, Spot, count, spot_at};
 use shop_base::Moment;
 use std::alloc::{AllocError, Global};
 

@@ -3,12 +3,11 @@
 ghost use Rattle.std.specs.Prelude.{◌≡◌, map, length, IfOk, IfSome};
 ghost use Rattle.shop_base.specs.Vectors.{lists_of};
 
-use crate::annealed::Rest;
 use crate::draws::Draws;
 use crate::known::Known;
-use crate::net_of_plan::{net_of, orders_of};
 use crate::opening::Opening;
 use crate::visits::Visits;
+use plan_net::{PartAhead, net_of, orders_of};
 use shop_base::{JobNo, Shaped};
 use std::alloc::{AllocError, Global};
 
@@ -38,20 +37,20 @@ pub fn can_open(shaped: &Shaped) -> bool {
 
 /// The order of each machine in the best plan that a large neighbourhood search meets; `None` if that is no better than
 /// this one, or if the shop is too large. The search goes on from the plan at hand at the end of its last round, if the
-/// best one that it has met is at most 2 % longer than this one, else from this one. Where jobs visit a machine again, in a
-/// small shop, it begins anew from another plan after each round that has met no better one. In each step the pairs of a few
-/// drawn jobs with all others are opened, and a complete search decides them anew, in a limited number of choices: for
-/// a plan that is better or, in a walk, for one that may be a little worse. The more often there is none, the more jobs
-/// are opened. A round does about the same amount of work for each large shop, some 0.4 s, and for a small one in
-/// proportion to the square of the number of operations. Better is a lesser total lateness or, with the same, a lesser
-/// makespan. Other seeds and rounds draw other jobs, and the same ones draw the same again. Where the rest of a run is
-/// given, only entries that are ahead are placed anew, a job that is gone is never late, and no job makes its next move
-/// before its bound. It is proved only that there are as many orders as machines, each with as many places as in this
-/// plan, or none.
+/// best one that it has met is at most 2 % longer than this one, else from this one. Where jobs visit a machine again,
+/// in a small shop, it begins anew from another plan after each round that has met no better one. In each step the
+/// pairs of a few drawn jobs with all others are opened, and a complete search decides them anew, in a limited number
+/// of choices: for a plan that is better or, in a walk, for one that may be a little worse. The more often there is
+/// none, the more jobs are opened. A round does about the same amount of work for each large shop, some 0.4 s, and for
+/// a small one in proportion to the square of the number of operations. Better is a lesser total lateness or, with the
+/// same, a lesser makespan. Other seeds and rounds draw other jobs, and the same ones draw the same again. Where the
+/// rest of a run is given, only entries that are ahead are placed anew, a job that is gone is never late, and no job
+/// makes its next move before its bound. It is proved only that there are as many orders as machines, each with as many
+/// places as in this plan, or none.
 pub fn opened_orders(
     alloc: Global,
     shaped: &Shaped,
-    rest: Option<&Rest>,
+    rest: Option<&PartAhead>,
     seed: u32,
     round: u32,
     known: &mut Known,

@@ -4,9 +4,9 @@
 use crate::complete::{Found, Search, Way};
 use crate::draws::Draws;
 use crate::known::Known;
-use crate::net::{NONE, Net, count};
 use crate::standing::{Lateness, ORIGIN, Standing};
 use crate::visits::{Visits, number_at};
+use plan_net::{NONE, Net, count};
 use shop_base::Moment;
 use std::alloc::{AllocError, Global};
 
@@ -133,8 +133,8 @@ impl Opening {
     }
 
     /// Goes on from what is known, if the best plan that the search itself has met isn't much worse than this one. In a
-    /// small shop where a job visits a machine again it does so, once no job is late, as long as each round betters that
-    /// plan, and begins anew else.
+    /// small shop where a job visits a machine again it does so, once no job is late, as long as each round betters
+    /// that plan, and begins anew else.
     fn resume(&mut self, net: &Net, known: &Known) {
         self.size = known.size;
         let best = self.best.lateness;
@@ -194,8 +194,8 @@ impl Opening {
         Ok(())
     }
 
-    /// Searches for a round, from the plan of a net or from what is known. Whether a better plan than that of the net is
-    /// found.
+    /// Searches for a round, from the plan of a net or from what is known. Whether a better plan than that of the net
+    /// is found.
     pub(crate) fn search(&mut self, net: &Net, known: &mut Known) -> Result<bool, AllocError> {
         if !self.read(net) {
             return Ok(false);

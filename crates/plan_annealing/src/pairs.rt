@@ -1,8 +1,8 @@
 //! The pairs of visits to a machine by two jobs that are still open, and which of them is decided next.
 
-use crate::net::{NONE, count};
 use crate::state::State;
 use crate::visits::{Visits, number_at};
+use plan_net::{NONE, count};
 use std::alloc::{AllocError, Global};
 
 /// What a pair weighs at first.

@@ -6,8 +6,8 @@
 //! the later moments are found only if none is.
 
 use crate::neighbours::Neighbours;
-use crate::net::{NONE, Net, Spot, count, spot_at};
 use crate::timing::{Look, OFF, Old, Part, Row, find_tails, head_in, node_at, time, time_from};
+use plan_net::{NONE, Net, Spot, count, spot_at};
 use shop_base::Moment;
 use std::alloc::{AllocError, Global};
 

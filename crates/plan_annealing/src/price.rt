@@ -1,5 +1,5 @@
-use crate::net::{NONE, Span};
 use crate::timing::{Row, head_in};
+use plan_net::{NONE, Span};
 use shop_base::Moment;
 use shop_base::limits::MAX_MOMENT;
 

@@ -2,9 +2,9 @@
 //! have to lie.
 
 use crate::due::Due;
-use crate::net::{NONE, count};
 use crate::state::State;
 use crate::visits::{Visits, has_bit, number_at, number_of, set_bit, take_bit, word_at};
+use plan_net::{NONE, count};
 use shop_base::Moment;
 use std::alloc::{AllocError, Global};
 
@@ -27,8 +27,8 @@ pub(crate) const NO_DECISION: Decision = Decision {
     later: NONE,
 };
 
-/// The nodes of an open job: the first and the last one, the first one that comes after some node, and the first one that
-/// doesn't come before some node.
+/// The nodes of an open job: the first and the last one, the first one that comes after some node, and the first one
+/// that doesn't come before some node.
 #[derive(Clone, Copy)]
 struct Range {
     first: u32,
@@ -350,8 +350,8 @@ impl Propagation {
         least
     }
 
-    /// The first node of an open job that doesn't come before a node and isn't the same; the one after its last one if all
-    /// do.
+    /// The first node of an open job that doesn't come before a node and isn't the same; the one after its last one if
+    /// all do.
     #[inline(always)]
     fn first_not_before(&self, range: Range, to: u32) -> u32 {
         let mut least = range.first;

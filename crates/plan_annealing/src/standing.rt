@@ -1,9 +1,9 @@
 //! A plan as the complete search takes it and leaves it.
 
-use crate::net::{NONE, Net, count, spot_at};
 use crate::propagation::Propagation;
 use crate::state::State;
 use crate::visits::{Visits, number_at};
+use plan_net::{NONE, Net, count, spot_at};
 use shop_base::Moment;
 use std::alloc::{AllocError, Global};
 

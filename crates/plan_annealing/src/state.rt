@@ -1,8 +1,8 @@
 //! What a complete search knows of the plans that it may still find, and how it was before its choices: each word that
 //! is written is noted, so that a choice is taken back by the words that it changed.
 
-use crate::net::count;
 use crate::visits::{has_bit, set_bit, word_at};
+use plan_net::count;
 use shop_base::Moment;
 use std::alloc::{AllocError, Global};
 

@@ -1,9 +1,9 @@
 //! What a complete search begins with: the pairs of a few jobs are open, and all others are decided as in a plan.
 
 use crate::complete::Search;
-use crate::net::count;
 use crate::standing::ORIGIN;
 use crate::visits::{Visits, number_at, number_of, take_bit};
+use plan_net::count;
 use shop_base::Moment;
 
 /// What it takes to begin, for each node, besides what its rows take.

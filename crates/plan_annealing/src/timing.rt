@@ -1,6 +1,6 @@
 //! A node's moment, from the moments of the nodes before it.
 
-use crate::net::{NONE, Spot, count, spot_at};
+use plan_net::{NONE, Spot, count, spot_at};
 use shop_base::Moment;
 
 /// Added to the place of a node that is put off: it is after all places then.

@@ -7,8 +7,8 @@
 //! go on from there.
 
 use crate::moves::Moves;
-use crate::net::{NONE, Net, spot_at};
 use crate::timing::Row;
+use plan_net::{NONE, Net, spot_at};
 use shop_base::Moment;
 
 /// Moves the job that enters here to the left, past the one before it, and past further ones there and at other visits
@@ -155,8 +155,8 @@ fn reach_right(moves: &mut Moves, rows: &[Row], at: u32, bound: u32) {
     }
 }
 
-/// Whether the job that has moved here is now beside a visit of its own, at the next node, which keeps its turn. Where it
-/// has another visit on the side that it has left, the node there is to be looked at again.
+/// Whether the job that has moved here is now beside a visit of its own, at the next node, which keeps its turn. Where
+/// it has another visit on the side that it has left, the node there is to be looked at again.
 fn is_at_own(moves: &mut Moves, net: &Net, entry: u32, at: u32, left: u32, next: u32) -> bool {
     let job = spot_at(&net.spots, entry).job;
     if spot_at(&net.spots, left).job == job {

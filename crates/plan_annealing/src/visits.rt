@@ -1,7 +1,7 @@
 //! The nodes of a net by the machines on which their jobs meet: a visit is a job's stay on a machine, from the node at
 //! which it enters to the next one, at which it leaves.
 
-use crate::net::{NONE, Net, Spot, count, spot_at};
+use plan_net::{NONE, Net, Spot, count, spot_at};
 use shop_base::Moment;
 use std::alloc::{AllocError, Global};
 

@@ -10,7 +10,7 @@ pub use Rattle.shop_base.specs.Plan.{IsWellShaped, PlannedShop, budget, jobs, ma
 pub use Rattle.shop_base.specs.{Sound.IsSound, Vectors.lists_of, declared.limits.TheConstants.MAX_MOMENT}
 pub use Rattle.alt_graph.specs.{Solved.HasCycle, Times.{NodeTimes, rank_of}}
 pub use Rattle.cell_tables.specs.{Kept.KeepsSoFar, Reordered.{BeginsWithEntries, IsReordered, reordered}, Rests.RestOfRun}
-pub use Rattle.plan_annealing.specs.declared.annealed.Rest.{Rest}
+pub use Rattle.plan_net.specs.declared.ahead.PartAhead.{PartAhead}
 pub use Rattle.plan_seek.specs.Orders.{Proposal, serial_order}
 pub use Rattle.plan_verifier.proofs.{Acceptable.{acyclic, leaving_node}, Answers.{ok_both, ok_each}}
 pub use Rattle.plan_verifier.proofs.GoingOn.{leaving_ahead, leavings_ahead}

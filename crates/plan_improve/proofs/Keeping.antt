@@ -1,7 +1,7 @@
 -- What is known of the best plan so far, and how an answer keeps it.
 use Rattle.std.proofs.Common.{◌≡◌, ℕ, ◌+◌, ◌<◌, List, [], ◌∷◌, ◌++◌, append_assoc, Option, Result, Ok, Err, IfOk, length, get_or, None, Some, inr, refl, sym, ap, ◌∙◌, subst}
 use Rattle.std.proofs.lemmas.Option.{slice_get_read}
-use Rattle.plan_improve.proofs.Common.{AfterRound, AfterRounds, AfterSome, Asked, Becomes, Best, Cost, EndsAfter, Fixed, IsAtBound, IsAtMost, IsBetter, IsFixed, IsLast, IsLess, IsNext, IsNextOf, IsReordered, ReportsMore, IsWellShaped, Meets, PlannedShop, Proposal, Rest, ReportedRounds, RestOfRun, Setting, IsRestOfDone, Progress, Watched, append-nil, better, bound_if_known, no_answer, no_better, no_round, nobody, one_more, reordered, rest_in, round_more, setting_of, reported_bound}
+use Rattle.plan_improve.proofs.Common.{AfterRound, AfterRounds, AfterSome, Asked, Becomes, Best, Cost, EndsAfter, Fixed, IsAtBound, IsAtMost, IsBetter, IsFixed, IsLast, IsLess, IsNext, IsNextOf, IsReordered, ReportsMore, IsWellShaped, Meets, PartAhead, PlannedShop, Proposal, ReportedRounds, RestOfRun, Setting, IsRestOfDone, Progress, Watched, append-nil, better, bound_if_known, no_answer, no_better, no_round, nobody, one_more, reordered, rest_in, round_more, setting_of, reported_bound}
 use Rattle.plan_improve.proofs.{Comparing.{most_of_most, not_both, most_same, most_less}, Once.{OneCost, reordered_on}}
 
 -- nothing was reported, and then more
@@ -87,7 +87,7 @@ module _ (fixed : Fixed) (r : RestOfRun PlannedShop) where
   at_bound made first best known is meets =
       record { cost = best.cost; at_least = bound_if_known fixed; is = known.is; bound = is.bound best.rest.plan known.same; meets = meets }
 
-  module _ {B : Type 0} (may : B → PlannedShop → Option Rest → ℕ → Proposal → Type 0) (improvers : List B) where
+  module _ {B : Type 0} (may : B → PlannedShop → Option PartAhead → ℕ → Proposal → Type 0) (improvers : List B) where
     -- one more improver was asked, as the best plan was above its bound
     pub one_more_asked : (round n : ℕ) (first : Cost) (best kept : Best) (who : B) → IsFixed fixed r → (Meets best.cost (bound_if_known fixed) → ⊥)
         → n < length improvers → who ≡ get_or improvers n who

@@ -3,7 +3,7 @@ use Rattle.std.proofs.Common.{◌≡◌, ℕ, ◌<◌, ◌≤◌, List, [], ◌�
 use Rattle.std.proofs.lemmas.{Bool.cases_lt, List.get_or_past}
 use Rattle.shop_base.specs.Plan.{job_at}
 use Rattle.shop_base.proofs.{InShop.start_unused, Visits.visits_job}
-use Rattle.plan_improve.proofs.Common.{AfterRound, BeginsWithEntries, Best, Cell, Cost, Fixed, NothingIsDone, IsLast, IsNextOf, IsSound, IsWellShaped, MachineState, Nothing, PlannedShop, Progress, Proposal, ReportedRounds, Rest, RestOfRun, Run, Setting, IsRestOfDone, Watched, entries, machines, order, reordered, setting_of, start}
+use Rattle.plan_improve.proofs.Common.{AfterRound, BeginsWithEntries, Best, Cell, Cost, Fixed, NothingIsDone, IsLast, IsNextOf, IsSound, IsWellShaped, MachineState, Nothing, PartAhead, PlannedShop, Progress, Proposal, ReportedRounds, RestOfRun, Run, Setting, IsRestOfDone, Watched, entries, machines, order, reordered, setting_of, start}
 use Rattle.plan_improve.proofs.Once.{setting_same}
 
 -- nobody has entered a machine at the start
@@ -68,11 +68,11 @@ module _ (fixed : Fixed) (r x : RestOfRun PlannedShop) (stands : IsRestOfDone (s
   pub next_back : (may : Proposal → Type 0) (best kept : Best) → IsNextOf (setting_of fixed x) may best kept → IsNextOf (setting_of fixed r) may best kept
   next_back may best kept is = subst (λ (s : Setting). IsNextOf s may best kept) same is
 
-  pub round_back : {B : Type 0} (may : B → PlannedShop → Option Rest → ℕ → Proposal → Type 0) (improvers : List B) (n : ℕ) (p : PlannedShop) (cost : Cost) (kept : Best)
+  pub round_back : {B : Type 0} (may : B → PlannedShop → Option PartAhead → ℕ → Proposal → Type 0) (improvers : List B) (n : ℕ) (p : PlannedShop) (cost : Cost) (kept : Best)
       → IsLast (setting_of fixed x) (AfterRound (setting_of fixed x) may improvers n) p cost kept → IsLast (setting_of fixed r) (AfterRound (setting_of fixed r) may improvers n) p cost kept
   round_back may improvers n p cost kept is = subst (λ (s : Setting). IsLast s (AfterRound s may improvers n) p cost kept) same is
 
-  pub rounds_back : {B : Type 0} (may : B → PlannedShop → Option Rest → ℕ → Proposal → Type 0) (improvers : List B) (before after : Option (List Progress)) (rounds : ℕ) (p : PlannedShop) (cost : Cost)
+  pub rounds_back : {B : Type 0} (may : B → PlannedShop → Option PartAhead → ℕ → Proposal → Type 0) (improvers : List B) (before after : Option (List Progress)) (rounds : ℕ) (p : PlannedShop) (cost : Cost)
       (kept : Best) → IsLast (setting_of fixed x) (Watched before after (ReportedRounds (setting_of fixed x) may improvers rounds)) p cost kept
       → IsLast (setting_of fixed r) (Watched before after (ReportedRounds (setting_of fixed r) may improvers rounds)) p cost kept
   rounds_back may improvers before after rounds p cost kept is = subst (λ (s : Setting). IsLast s (Watched before after (ReportedRounds s may improvers rounds)) p cost kept) same is

@@ -2,7 +2,7 @@
 use Rattle.std.specs.Prelude.{◌≡◌, ◌⊎◌, ℕ, Option, None, Some}
 use Rattle.shop_base.specs.Plan.{PlannedShop}
 use Rattle.cell_tables.specs.{Reordered.IsReordered, Rests.RestOfRun}
-use Rattle.plan_annealing.specs.declared.annealed.Rest.{Rest}
+use Rattle.plan_net.specs.declared.ahead.PartAhead.{PartAhead}
 use Rattle.plan_seek.specs.Orders.{Proposal}
 use Rattle.plan_improve.specs.{declared.cost.Cost.Cost, declared.best.Best.Best, declared.beginning.First.First}
 use Rattle.plan_improve.specs.declared.beginning.First.TheVariants.{Begins, Stays as StaysFirst}
@@ -17,7 +17,7 @@ setting_of (Nothing at_least) r = whole_plan
 setting_of (Run left) r = rest_from r.cell r.present
 
 -- what an improver gets as what is left
-abbrev pub rest_in : Fixed → Option Rest
+abbrev pub rest_in : Fixed → Option PartAhead
 rest_in (Nothing at_least) = None
 rest_in (Run left) = Some left.now
 

@@ -2,7 +2,7 @@
 use Rattle.std.specs.{Prelude.◌≡◌, Prelude.ℕ, Prelude.nat_lt, Prelude.if◌then◌else◌, Prelude.map, Prelude.◌<◌, Prelude.false, List.range_with_len}
 use Rattle.shop_base.specs.Plan.{PlannedShop, jobs, machines, steps}
 use Rattle.shop_base.specs.{Cell.Cell, Cell.job_in, Cell.made, Cell.ready, Cell.since, Cell.cleaning, Movers.due_of_job}
-use Rattle.plan_annealing.specs.{declared.annealed.JobRest.JobRest, declared.annealed.Rest.Rest}
+use Rattle.plan_net.specs.{declared.ahead.JobAhead.JobAhead, declared.ahead.PartAhead.PartAhead}
 use Rattle.plan_verifier.specs.Held.{later_than}
 
 module _ (p : PlannedShop) (c : Cell) (t : ℕ) where
@@ -11,11 +11,11 @@ module _ (p : PlannedShop) (c : Cell) (t : ℕ) where
   begins_at j = if nat_lt (steps p j) (made c j) then since c j else later_than t (due_of_job p j (job_in c j))
 
   -- how job j goes on
-  abbrev pub job_rest : ℕ → JobRest
+  abbrev pub job_rest : ℕ → JobAhead
   job_rest j = record { made = made c j; bound = begins_at j }
 
   -- this is how each job goes on, and since when each machine is being cleaned
-  pub record IsRestOf (rest : Rest) : Type 0 where
+  pub record IsRestOf (rest : PartAhead) : Type 0 where
     pub each_job : rest.jobs.items ≡ map job_rest (range_with_len 0 (jobs p))
     pub each_machine : rest.cleanings.items ≡ map (cleaning c) (range_with_len 0 (machines p))
 

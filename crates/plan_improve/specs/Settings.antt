@@ -2,13 +2,13 @@
 use Rattle.std.specs.Prelude.{◌≡◌, ℕ, Option, None, Some}
 use Rattle.shop_base.specs.{Plan.PlannedShop, Plan.IsWellShaped, Cell.Cell, Cell.start}
 use Rattle.cell_tables.specs.Reordered.{BeginsWithEntries}
-use Rattle.plan_annealing.specs.declared.annealed.Rest.{Rest}
+use Rattle.plan_net.specs.declared.ahead.PartAhead.{PartAhead}
 use Rattle.plan_improve.specs.{declared.cost.Cost.Cost, Costs.IsCost, Costs.IsLess, Costs.IsAtMost, AtBound.IsBound, AtBound.Meets}
 use Rattle.plan_improve.specs.{RestCosts.IsRestCost, RestOf.IsRestOf, RestOf.NothingIsDone}
 
 -- what a run has left of a plan, as an improver gets it; nothing where no run has begun
 abbrev pub Left : Type 0
-Left = Option Rest
+Left = Option PartAhead
 
 -- what is fixed: the cell to which what was done leads by a plan, and the present moment, that nothing was done yet, what a plan costs that keeps it and has no cycle, what an improver gets as what is left of it, and the bound of its makespan, if one is known
 pub record Setting : Type 1 where

@@ -1,7 +1,8 @@
 use crate::annealing_improver::AnnealingImprover;
 use crate::improver::Improver;
 use crate::opening_improver::OpeningImprover;
-use plan_annealing::{Rest, can_open};
+use plan_annealing::can_open;
+use plan_net::PartAhead;
 use plan_seek::Proposed;
 use shop_base::Shaped;
 use std::alloc::Global;
@@ -28,7 +29,13 @@ impl AlternatingImprover {
 impl Improver for AlternatingImprover {
     ghost may = { λ improver shaped rest round answer. Unit {0} };
 
-    fn improve(&self, alloc: Global, shaped: &Shaped, rest: Option<&Rest>, round: u32) -> Proposed {
+    fn improve(
+        &self,
+        alloc: Global,
+        shaped: &Shaped,
+        rest: Option<&PartAhead>,
+        round: u32,
+    ) -> Proposed {
         if !can_open(shaped) {
             return self.annealing.improve(alloc, shaped, rest, round);
         }

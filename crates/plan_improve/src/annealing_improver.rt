@@ -1,5 +1,6 @@
 use crate::improver::Improver;
-use plan_annealing::{Rest, annealed_orders};
+use plan_annealing::annealed_orders;
+use plan_net::PartAhead;
 use plan_seek::Proposed;
 use shop_base::Shaped;
 use std::alloc::Global;
@@ -22,7 +23,13 @@ impl AnnealingImprover {
 impl Improver for AnnealingImprover {
     ghost may = { λ improver shaped rest round answer. Unit {0} };
 
-    fn improve(&self, alloc: Global, shaped: &Shaped, rest: Option<&Rest>, round: u32) -> Proposed {
+    fn improve(
+        &self,
+        alloc: Global,
+        shaped: &Shaped,
+        rest: Option<&PartAhead>,
+        round: u32,
+    ) -> Proposed {
         annealed_orders(alloc, shaped, rest, self.seed, round)
     }
 }

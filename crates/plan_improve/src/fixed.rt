@@ -7,7 +7,7 @@ ghost use Rattle.plan_improve.specs.Keeping.{setting_of, rest_in, bound_if_known
 use crate::cost::Cost;
 use crate::costing::cost_from;
 use cell_tables::Rest;
-use plan_annealing::Rest as Left;
+use plan_net::PartAhead;
 use shop_base::{Moment, Shaped};
 use std::alloc::{AllocError, Global};
 
@@ -17,12 +17,12 @@ pub(crate) enum Fixed<'a> {
     /// Nothing: a whole plan is improved. Whatever its orders, its makespan is no less than this.
     Nothing { at_least: Moment },
     /// What was done so far: a plan is improved for the rest of a run, which has this left.
-    Run { left: &'a Left },
+    Run { left: &'a PartAhead },
 }
 
 impl<'a> Fixed<'a> {
     /// What a run has left of the plan, if one has begun.
-    pub fn left(&self) -> Option<&Left>
+    pub fn left(&self) -> Option<&PartAhead>
         ensures { option_copied result ≡ rest_in self.now }
     {
         match self {

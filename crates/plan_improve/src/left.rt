@@ -5,12 +5,12 @@ ghost use Rattle.shop_base.specs.Plan.{jobs};
 ghost use Rattle.plan_improve.specs.RestOf.{IsRestOf, job_rest, HasNotArrived, NothingIsDone};
 
 use cell_tables::{Rest, WorkCell};
-use plan_annealing::{JobRest, Rest as Left};
+use plan_net::{JobAhead, PartAhead};
 use shop_base::{JobNo, Moment, Planned};
 use std::alloc::{AllocError, Global};
 
 /// What is left, as an improver gets it.
-pub(crate) fn left_of<P: Planned>(alloc: Global, rest: &Rest<P>) -> Result<Left, AllocError>
+pub(crate) fn left_of<P: Planned>(alloc: Global, rest: &Rest<P>) -> Result<PartAhead, AllocError>
     ensures { IfOk result (IsRestOf rest.now.plan rest.now.cell rest.now.present) }
 {
     let (cell, present) = (rest.cell(), rest.present());
@@ -22,11 +22,11 @@ pub(crate) fn left_of<P: Planned>(alloc: Global, rest: &Rest<P>) -> Result<Left,
     for machine in 0..cell.machine_count() {
         cleanings.push(cell.cleaned_since(machine))?;
     }
-    Ok(Left { jobs, cleanings })
+    Ok(PartAhead { jobs, cleanings })
 }
 
 /// How the job goes on: not before the present moment, and not before what goes on with it is due.
-fn job_rest<P: Planned>(cell: &WorkCell<P>, present: Moment, job: JobNo) -> JobRest
+fn job_rest<P: Planned>(cell: &WorkCell<P>, present: Moment, job: JobNo) -> JobAhead
     requires { job < jobs cell.now.plan }
     ensures { result ≡ job_rest cell.now.plan cell.now.cell present job }
 {
@@ -39,7 +39,7 @@ fn job_rest<P: Planned>(cell: &WorkCell<P>, present: Moment, job: JobNo) -> JobR
             None => present,
         }
     };
-    JobRest {
+    JobAhead {
         made: state.made,
         bound,
     }

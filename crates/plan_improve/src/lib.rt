@@ -34,7 +34,7 @@ pub use improver::Improver;
 pub use improving::improve;
 pub use not_improved::NotImproved;
 pub use opening_improver::OpeningImprover;
-pub use plan_annealing::{JobRest, Rest};
+pub use plan_net::{JobAhead, PartAhead};
 pub use plan_seek::{MAX_ROUNDS, Proposed};
 pub use rest_improving::better_rest;
 pub use watch::Watch;

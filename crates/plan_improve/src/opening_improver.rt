@@ -1,5 +1,6 @@
 use crate::improver::Improver;
-use plan_annealing::{Known, Rest, opened_orders};
+use plan_annealing::{Known, opened_orders};
+use plan_net::PartAhead;
 use plan_seek::Proposed;
 use shop_base::Shaped;
 use std::alloc::Global;
@@ -36,7 +37,13 @@ impl OpeningImprover {
 impl Improver for OpeningImprover {
     ghost may = { λ improver shaped rest round answer. Unit {0} };
 
-    fn improve(&self, alloc: Global, shaped: &Shaped, rest: Option<&Rest>, round: u32) -> Proposed {
+    fn improve(
+        &self,
+        alloc: Global,
+        shaped: &Shaped,
+        rest: Option<&PartAhead>,
+        round: u32,
+    ) -> Proposed {
         match self.known.try_borrow_mut() {
             Ok(mut known) => opened_orders(alloc, shaped, rest, self.seed, round, &mut *known),
             Err(_) => Ok(None),

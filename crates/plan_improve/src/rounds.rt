@@ -13,7 +13,7 @@ use crate::improver::Improver;
 use crate::judging::judge_orders;
 use crate::plan_out::plan_of;
 use crate::watch::Watch;
-use plan_annealing::Rest as Left;
+use plan_net::PartAhead;
 use plan_seek::Proposed;
 use shop_base::{Moment, Shaped};
 use std::alloc::{AllocError, Global};
@@ -115,7 +115,7 @@ fn ask(
     alloc: Global,
     improver: &Box<dyn Improver>,
     shaped: &Shaped,
-    left: Option<&Left>,
+    left: Option<&PartAhead>,
     round: u32,
 ) -> Proposed
     ensures { IfOk result (λ answer.

@@ -6,8 +6,8 @@ ghost use Rattle.std.specs.Prelude.{None};
 use super::plans::{is_text, planned};
 use cell_tables::Rest;
 use plan_improve::{
-    AnnealingImprover, ImproveFault, Improved, Improver, MAX_ROUNDS, NotImproved, Proposed,
-    Rest as Left, Watch, better_rest,
+    AnnealingImprover, ImproveFault, Improved, Improver, MAX_ROUNDS, NotImproved, PartAhead,
+    Proposed, Watch, better_rest,
 };
 use plan_text::PlanFault;
 use plan_verifier::Judged;
@@ -66,7 +66,7 @@ struct Silent {
 impl Improver for Silent {
     ghost may = { λ improver shaped rest round answer. Unit {0} };
 
-    fn improve(&self, _: Global, _: &Shaped, _: Option<&Left>, _: u32) -> Proposed {
+    fn improve(&self, _: Global, _: &Shaped, _: Option<&PartAhead>, _: u32) -> Proposed {
         self.questions.set(self.questions.get().saturating_add(1));
         Ok(None)
     }

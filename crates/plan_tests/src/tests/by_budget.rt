@@ -1,4 +1,4 @@
-use plan_improve::{Improver, Proposed, Rest};
+use plan_improve::{Improver, PartAhead, Proposed};
 use shop_base::Shaped;
 use std::alloc::Global;
 
@@ -9,7 +9,7 @@ pub struct BudgetImprover;
 impl Improver for BudgetImprover {
     ghost may = { λ improver shaped rest round answer. Unit {0} };
 
-    fn improve(&self, alloc: Global, shaped: &Shaped, _: Option<&Rest>, _: u32) -> Proposed {
+    fn improve(&self, alloc: Global, shaped: &Shaped, _: Option<&PartAhead>, _: u32) -> Proposed {
         let plan = shaped.plan();
         let mut orders = Vec::new(alloc);
         for order in &plan.order {

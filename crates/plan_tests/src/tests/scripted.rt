@@ -2,7 +2,7 @@
 
 use super::by_budget::BudgetImprover;
 use super::descending::DescendingProposer;
-use plan_improve::{Improver, Rest};
+use plan_improve::{Improver, PartAhead};
 use plan_seek::{Proposed, Proposer};
 use shop_base::{JobNo, Shaped, Shop};
 use std::alloc::{AllocError, Global};
@@ -98,7 +98,13 @@ impl Proposer for Scripted {
 impl Improver for Scripted {
     ghost may = { λ improver shaped rest round answer. Unit {0} };
 
-    fn improve(&self, alloc: Global, shaped: &Shaped, rest: Option<&Rest>, round: u32) -> Proposed {
+    fn improve(
+        &self,
+        alloc: Global,
+        shaped: &Shaped,
+        rest: Option<&PartAhead>,
+        round: u32,
+    ) -> Proposed {
         match self.asked(round) {
             Answer::Shown => BudgetImprover.improve(alloc, shaped, rest, round),
             answer => orders(alloc, answer),

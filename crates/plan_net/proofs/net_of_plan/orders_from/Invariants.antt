@@ -1,6 +1,6 @@
 use Rattle.std.proofs.Common.{◌≡◌, map, length, take}
 use Rattle.shop_base.specs.Vectors.{lists_of}
-use Rattle.plan_annealing.proofs.net_of_plan.orders_from.Given as goal
+use Rattle.plan_net.proofs.net_of_plan.orders_from.Given as goal
 
 -- the orders so far have as many places as the plan's
 abbrev pub invariant-loop-machine : goal.invariant-loop-machine

@@ -3,7 +3,7 @@
 ghost use Rattle.std.specs.Prelude.{◌≡◌, map, length, IfOk};
 ghost use Rattle.shop_base.specs.Vectors.{lists_of};
 
-use crate::annealed::{JobRest, Rest};
+use crate::ahead::{JobAhead, PartAhead};
 use crate::net::{NONE, Net, Span, Spot, count, link, spot_at};
 use shop_base::limits::MAX_MOMENT;
 use shop_base::{JobNo, MachineNo, Moment, Plan, Shaped, Step};
@@ -11,11 +11,7 @@ use std::alloc::{AllocError, Global};
 
 /// The graph of the plan or, if a run has begun, of what is ahead of it: the first node of each job has no other before
 /// it, so nothing comes before a job that is on a machine.
-pub(crate) fn net_of(
-    alloc: Global,
-    shaped: &Shaped,
-    rest: Option<&Rest>,
-) -> Result<Net, AllocError> {
+pub fn net_of(alloc: Global, shaped: &Shaped, rest: Option<&PartAhead>) -> Result<Net, AllocError> {
     let shop = shaped.shop();
     let mut net = Net {
         spots: Vec::new(alloc),
@@ -36,14 +32,14 @@ pub(crate) fn net_of(
 }
 
 /// How the job goes on: with its first step from its release on, where no run has begun.
-fn job_rest(plan: &Plan, rest: Option<&Rest>, job: JobNo) -> JobRest {
+fn job_rest(plan: &Plan, rest: Option<&PartAhead>, job: JobNo) -> JobAhead {
     let begun = match rest {
         Some(rest) => rest.jobs.get(job as usize).copied(),
         None => None,
     };
     match begun {
         Some(begun) => begun,
-        None => JobRest {
+        None => JobAhead {
             made: 0,
             bound: moment_at(&plan.release, job),
         },
@@ -56,7 +52,7 @@ fn add_job(
     plan: &Plan,
     job: JobNo,
     route: &[Step],
-    from: JobRest,
+    from: JobAhead,
     net: &mut Net,
 ) -> Result<(), AllocError> {
     let first = count(net.spots.len());
@@ -131,7 +127,7 @@ fn moment_at(moments: &[Moment], number: u32) -> Moment {
 /// Links the visits of each machine.
 fn link_machines(
     plan: &Plan,
-    rest: Option<&Rest>,
+    rest: Option<&PartAhead>,
     machines: u32,
     net: &mut Net,
 ) -> Result<(), AllocError> {
@@ -143,7 +139,11 @@ fn link_machines(
 }
 
 /// Adds a node for the moment since when the machine is being cleaned, if it is: the one at which it was left.
-fn add_cleaning(rest: Option<&Rest>, machine: MachineNo, net: &mut Net) -> Result<u32, AllocError> {
+fn add_cleaning(
+    rest: Option<&PartAhead>,
+    machine: MachineNo,
+    net: &mut Net,
+) -> Result<u32, AllocError> {
     let Some(since) = cleaned_since(rest, machine) else {
         return Ok(NONE);
     };
@@ -160,7 +160,7 @@ fn add_cleaning(rest: Option<&Rest>, machine: MachineNo, net: &mut Net) -> Resul
 }
 
 /// Since when the machine is being cleaned, if a run has begun and it is.
-fn cleaned_since(rest: Option<&Rest>, machine: MachineNo) -> Option<Moment> {
+fn cleaned_since(rest: Option<&PartAhead>, machine: MachineNo) -> Option<Moment> {
     match rest {
         Some(rest) => match rest.cleanings.get(machine as usize) {
             Some(since) => *since,
@@ -232,8 +232,9 @@ fn next_entry(net: &mut Net, job: JobNo, machine: MachineNo) -> u32 {
     NONE
 }
 
-/// The orders of the machines in the best plan that was met, each with as many places as the plan's.
-pub(crate) fn orders_of(
+/// The orders of the machines by the sources that were saved, those of the best plan that was met. It is proved only
+/// that there are as many orders as machines, each with as many places as in this plan.
+pub fn orders_of(
     alloc: Global,
     net: &mut Net,
     shaped: &Shaped,

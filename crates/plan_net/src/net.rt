@@ -4,16 +4,16 @@ use shop_base::Moment;
 use shop_base::limits::MAX_MOMENT;
 
 /// The number of no node. It is past all rows.
-pub(crate) const NONE: u32 = u32::MAX;
+pub const NONE: u32 = u32::MAX;
 
 /// A node: the entry of a step, or the leaving of a job.
 #[derive(Clone, Copy)]
-pub(crate) struct Spot {
+pub struct Spot {
     /// The nominal time of the step before, and at a job's first node the release or, in mid-run, its bound.
     pub lag: Moment,
     /// The cleaning time of the machine that is entered here.
     pub clean: Moment,
-    /// The least time from here to what the job's leaving counts for the aim.
+    /// The least time from here to the job's leaving, and what that counts: see `set_rests`.
     pub rest: Moment,
     /// The nodes before and after it in its job.
     pub back: u32,
@@ -30,7 +30,7 @@ pub(crate) struct Spot {
 /// A job: its first and its last node, the machine that it is on before these, and its budget. Or a cleaning that goes
 /// on, with one node.
 #[derive(Clone, Copy)]
-pub(crate) struct Span {
+pub struct Span {
     pub first: u32,
     pub last: u32,
     pub on: u32,
@@ -41,7 +41,7 @@ pub(crate) struct Span {
 
 /// The nodes, job after job, and the jobs; then the cleanings that go on.
 #[derive(Drop)]
-pub(crate) struct Net {
+pub struct Net {
     pub spots: Vec<Spot>,
     pub spans: Vec<Span>,
     /// How often each machine has been entered.
@@ -54,12 +54,12 @@ pub(crate) struct Net {
 
 impl Net {
     /// How many steps all jobs have ahead.
-    pub(crate) fn steps(&self) -> u64 {
+    pub fn steps(&self) -> u64 {
         self.spots.len().wrapping_sub(self.spans.len()) as u64
     }
 
     /// Keeps the sources of all nodes.
-    pub(crate) fn save(&mut self) {
+    pub fn save(&mut self) {
         for (spot, place) in self.spots.iter().zip(self.saved.iter_mut()) {
             *place = spot.source;
         }
@@ -67,7 +67,7 @@ impl Net {
 
     /// Sets what is left from each node on, where a job's leaving counts as it is or, with budgets, by how much it is
     /// past its budget, `MAX_MOMENT` added.
-    pub(crate) fn set_rests(&mut self, with_budgets: bool) {
+    pub fn set_rests(&mut self, with_budgets: bool) {
         for span in &self.spans {
             if with_budgets {
                 set_rest(&mut self.spots, span, MAX_MOMENT.wrapping_sub(span.budget));
@@ -91,13 +91,13 @@ fn set_rest(spots: &mut [Spot], span: &Span, leaving: Moment) {
 }
 
 /// A length as a number of nodes.
-pub(crate) fn count(length: usize) -> u32 {
+pub fn count(length: usize) -> u32 {
     (length & 0xffff_ffff) as u32
 }
 
 /// The node of this number; if there is none, one of no job.
 #[inline]
-pub(crate) fn spot_at(spots: &[Spot], number: u32) -> Spot {
+pub fn spot_at(spots: &[Spot], number: u32) -> Spot {
     match spots.get(number as usize) {
         Some(spot) => *spot,
         None => Spot {
@@ -116,7 +116,7 @@ pub(crate) fn spot_at(spots: &[Spot], number: u32) -> Spot {
 
 /// Makes the one node the source of the other, if there are such nodes.
 #[inline]
-pub(crate) fn link(spots: &mut [Spot], from: u32, to: u32) {
+pub fn link(spots: &mut [Spot], from: u32, to: u32) {
     if let Some(spot) = spots.get_mut(from as usize) {
         spot.target = to;
     }
@@ -125,9 +125,9 @@ pub(crate) fn link(spots: &mut [Spot], from: u32, to: u32) {
     }
 }
 
-/// Puts the job that enters here before the other one, whose visit is now before its own in the machine's order. Returns
-/// that one's entry: a second call there takes the first one back.
-pub(crate) fn swap(spots: &mut [Spot], entry: u32) -> u32 {
+/// Puts the job that enters here before the other one, whose visit is now before its own in the order of the machine.
+/// Returns that one's entry, where a second call takes the first one back, or `NONE` if there is no other one.
+pub fn swap(spots: &mut [Spot], entry: u32) -> u32 {
     let from = spot_at(spots, entry).source;
     let other = spot_at(spots, from).back;
     let leave = spot_at(spots, entry).next;
