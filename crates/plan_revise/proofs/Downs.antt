@@ -11,7 +11,7 @@ use Rattle.shop_base.proofs.Visits.{visits_job}
 use Rattle.cell_tables.specs.Carried.{carried_job}
 use Rattle.cell_tables.specs.KeptLaw.{AKeptRunIsOneOfTheOtherPlan}
 use Rattle.plan_revise.specs.declared.change.Change.{Change}
-use Rattle.plan_revise.specs.declared.change.Change.TheVariants.{Until, Add, Scrap, Down}
+use Rattle.plan_revise.specs.declared.change.Change.TheVariants.{Until, Add, Scrap, Down, Route, Release, Budget}
 use Rattle.plan_revise.specs.Ended.{with_job_ended}
 use Rattle.plan_revise.specs.Settings.{RevisionSetting, setting, moves_made}
 use Rattle.plan_revise.specs.Aside.{HasRoom, put_aside}
@@ -118,6 +118,9 @@ module _ (s : RevisionSetting) (is : IsSetting s) where
   downs-keep p (Until machine to ∷ changes) q m i downs revision made in_plant done = absurd downs
   downs-keep p (Add words release budget ∷ changes) q m i downs revision made in_plant done = absurd downs
   downs-keep p (Scrap j ∷ changes) q m i downs revision made in_plant done = absurd downs
+  downs-keep p (Route j words ∷ changes) q m i downs revision made in_plant done = absurd downs
+  downs-keep p (Release j moment ∷ changes) q m i downs revision made in_plant done = absurd downs
+  downs-keep p (Budget j moment ∷ changes) q m i downs revision made in_plant done = absurd downs
   downs-keep p (Down machine ∷ changes) q m i downs revision (next, one, rest) in_plant done =
       downs-keep next changes q m i downs (becomes-revision s is p (Down machine) next revision one) rest in_plant
       (subst (λ (r : PlannedShop). IsDone r m i) (sym one.is) (without-keeps p m machine i (jobs p) revision (omega arith) in_plant one.room done))
@@ -133,15 +136,15 @@ module _ (s : RevisionSetting) (is : IsSetting s) where
   down-done p (change ∷ before) m after q j k downs revision (next, one, rest) visits = down-done next before m after q j k downs (becomes-revision s is p change next revision one) rest visits
 
 pub no_part_comes : AKeptRunIsOneOfTheOtherPlan → NoPartComesToAMachineThatIsDown
-no_part_comes kept p q es t before after machine r downs j k visits = omega (arith, moved, ap (λ (x : JobState). x.made) there, same (cases_lt j (jobs p)))
+no_part_comes kept p q es t plant before after machine r downs j k visits = omega (arith, moved, ap (λ (x : JobState). x.made) there, same (cases_lt j (jobs p)))
   where
-    moved : k < moves_made (setting p (ends_in p es) t r.revised.plant) j
-    moved = down-done (setting p (ends_in p es) t r.revised.plant) (run_setting p q es t (before ++ Down machine ∷ after) r) p before machine after q j k downs
-        (given_revision (setting p (ends_in p es) t r.revised.plant) (run_setting p q es t (before ++ Down machine ∷ after) r)) r.revised.made visits
+    moved : k < moves_made (setting p (ends_in p es) t plant) j
+    moved = down-done (setting p (ends_in p es) t plant) (run_setting p q es t plant (before ++ Down machine ∷ after) r) p before machine after q j k downs
+        (given_revision (setting p (ends_in p es) t plant) (run_setting p q es t plant (before ++ Down machine ∷ after) r)) r.made visits
 
     there : job_in (ends_in q es) j ≡ carried_job p (ends_in p es) j
-    there = (run_stays kept p q es t (before ++ Down machine ∷ after) r).2.jobs_same j (visits_job q j k machine visits)
+    there = (run_stays kept p q es t plant (before ++ Down machine ∷ after) r).2.jobs_same j (visits_job q j k machine visits)
 
-    same : (j < jobs p) ⊎ (jobs p ≤ j) → (carried_job p (ends_in p es) j).made ≡ moves_made (setting p (ends_in p es) t r.revised.plant) j
+    same : (j < jobs p) ⊎ (jobs p ≤ j) → (carried_job p (ends_in p es) j).made ≡ moves_made (setting p (ends_in p es) t plant) j
     same (inl inside) = rw (lt-ltb j (jobs p) inside) refl
     same (inr past) = rw (le-ltb j (jobs p) past) refl

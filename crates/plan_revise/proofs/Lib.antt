@@ -3,7 +3,10 @@ pub mod Fitting
 pub mod Ways
 pub mod EndedParts
 pub mod PlacedParts
+pub mod DatesMoved
+pub mod Inserted
 pub mod Keeping
+pub mod SentOn
 pub mod Revisions
 pub mod EndedArcs
 pub mod PlacedArcs
@@ -11,6 +14,7 @@ pub mod RevisedLaws
 pub mod Outcomes
 pub mod Written
 pub mod AddRefused
+pub mod RerouteRefused
 pub mod Downs
 pub mod Lifted
 pub mod Sooner

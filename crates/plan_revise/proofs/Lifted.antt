@@ -11,26 +11,28 @@ use Rattle.shop_base.specs.Cell.{Cell, made}
 use Rattle.shop_base.specs.Graph.{node, leaving, Arc, job_arc, blocking_arc}
 use Rattle.shop_base.specs.Ahead.{IsAhead, RespectArcs, MeetBudgetsAhead}
 use Rattle.plan_revise.specs.declared.change.Change.{Change}
-use Rattle.plan_revise.specs.declared.change.Change.TheVariants.{Until, Add, Scrap, Down}
+use Rattle.plan_revise.specs.declared.change.Change.TheVariants.{Until, Add, Scrap, Down, Route, Release, Budget}
 use Rattle.plan_revise.specs.Promises.{no_promise}
 use Rattle.plan_revise.specs.Ended.{with_job_ended}
 use Rattle.plan_revise.specs.Settings.{RevisionSetting, moves_made}
-use Rattle.plan_revise.specs.Aside.{IsAside, aside_route, with_aside, HasRoom, put_aside}
+use Rattle.plan_revise.specs.Aside.{MayBeAside, IsInLine, aside_route, with_aside, HasRoom, put_aside}
 use Rattle.plan_revise.specs.Stopped.{present_step, way_to, stopped, stopped_at, without_machine}
 use Rattle.plan_revise.specs.Changes.{IsChangedTo}
+use Rattle.plan_revise.specs.Dates.{coming_by, promised_by}
 use Rattle.plan_revise.specs.Revised.{AreMade}
 use Rattle.plan_revise.specs.Fits.{IsFit, IsRevision, IsSetting}
 use Rattle.plan_revise.specs.Parts.{Ends, Places}
 use Rattle.plan_revise.specs.Stages.{IsStage}
-use Rattle.plan_revise.specs.RevisedLaw.{AreOthers, AreStops}
+use Rattle.plan_revise.specs.Effects.{AreAll, SparesJob, AsksNoMore}
 use Rattle.plan_revise.proofs.Ways.{way_visits}
 use Rattle.plan_revise.proofs.EndedParts.{EndsOnce, ended-ends, ended_by, visits_before, steps_few, step_before}
 use Rattle.plan_revise.proofs.EndedArcs.{once-arc}
 use Rattle.plan_revise.proofs.PlacedArcs.{placed-arc, visits_others}
+use Rattle.plan_revise.proofs.DatesMoved.{coming-same, promised-same, coming-release, coming-others, promised-budget, promised-others}
 use Rattle.plan_revise.proofs.PlacedParts.{SameVisits, same-visits_back}
 use Rattle.plan_revise.proofs.RevisedLaws.{same_arc, stopped_at-stays, aside_visits, becomes-more_jobs}
 use Rattle.plan_revise.proofs.Outcomes.{made-stays, made-more_jobs}
-use Rattle.shop_base.proofs.Visits.{visits_job, visits_machine}
+use Rattle.shop_base.proofs.Visits.{visits_job, visits_machine, visits-stands}
 use Rattle.plan_revise.proofs.Revisions.{HasAside, has_aside, aside_ends, aside_fit, aside_places, aside_others, stopped_outside, stopped_inside, stage_upto, stage_room, becomes-revision}
 
 -- moments that respect the arcs ahead and meet the budgets there
@@ -47,10 +49,10 @@ pub record IsAsideSound (s : RevisionSetting) (p : PlannedShop) : Type 0 where
 
 -- ---- what is read the same
 
-same_fits : (c : Cell) (p q : PlannedShop) (kept : Node → ℕ) (same : SameVisits p q) → ((j k : ℕ) → nominal q j k ≡ nominal p j k) → ((m : ℕ) → clean q m ≡ clean p m) → ((j : ℕ) → release q j ≡ release p j) → jobs q ≡ jobs p → ((j : ℕ) → budget q j ≡ budget p j) → AreFitting c p kept → AreFitting c q kept
-same_fits c p q kept same times cleans releases jobs_same budgets_same f = record {
+same_fits : (c : Cell) (p q : PlannedShop) (kept : Node → ℕ) (same : SameVisits p q) → ((j k : ℕ) → nominal q j k ≡ nominal p j k) → ((m : ℕ) → clean q m ≡ clean p m) → ((j : ℕ) → release q j ≤ release p j) → jobs q ≡ jobs p → ((j : ℕ) → j < jobs p → budget p j ≤ budget q j) → AreFitting c p kept → AreFitting c q kept
+same_fits c p q kept same times cleans releases jobs_same budgets_more f = record {
   arcs = λ u v d ahead arc. f.arcs u v d ahead (same_arc p q same times cleans releases c 0 u v d arc);
-  budgets = λ i there here. omega (arith, f.budgets i (omega arith) (λ gone. here (omega (arith, same.lengths i))), ap (λ k. kept (node i k)) (same.lengths i), budgets_same i);
+  budgets = λ i there here. omega (arith, f.budgets i (omega arith) (λ gone. here (omega (arith, same.lengths i))), ap (λ k. kept (node i k)) (same.lengths i), budgets_more i (omega arith));
 }
 
 -- ---- a job that ends
@@ -106,20 +108,20 @@ pub ended_fits : (c : Cell) (p : PlannedShop) (j n : ℕ) (kept : Node → ℕ) 
 ended_fits c p j n kept fit inside behind f =
     (ended_by p j fit inside (λ q. AreFitting c q kept) n f (λ q r k more there fits once holds. once_fits c q j k r kept fits once there (omega arith) holds)).1
 
--- ---- changes that stop jobs
+-- ---- changes that ask for no more
 
-pub first_stop : (change : Change) (changes : List Change) → AreStops (change ∷ changes) → AreStops (change ∷ []) × AreStops changes
-first_stop (Until machine to) changes stops = absurd stops
-first_stop (Add words release budget) changes stops = absurd stops
-first_stop (Scrap j) changes stops = (tt, stops)
-first_stop (Down machine) changes stops = (tt, stops)
+one_spares : (s : RevisionSetting) (i : ℕ) (p : PlannedShop) (change : Change) → AsksNoMore p change → SparesJob s i p change
+one_spares s i p (Until machine to) less = less
+one_spares s i p (Add words first last) less = tt
+one_spares s i p (Scrap j) less = tt
+one_spares s i p (Down machine) less = tt
+one_spares s i p (Route j words) less = absurd less
+one_spares s i p (Release j moment) less = less
+one_spares s i p (Budget j moment) less = tt
 
-pub all_others : (changes : List Change) → AreStops changes → AreOthers changes
-all_others [] stops = tt
-all_others (Until machine to ∷ changes) stops = stops
-all_others (Add words release budget ∷ changes) stops = absurd stops
-all_others (Scrap j ∷ changes) stops = all_others changes stops
-all_others (Down machine ∷ changes) stops = all_others changes stops
+pub all_spare : (s : RevisionSetting) (i : ℕ) (p : PlannedShop) (changes : List Change) → AreAll AsksNoMore s p changes → AreAll (SparesJob s i) s p changes
+all_spare s i p [] less = tt
+all_spare s i p (change ∷ changes) (less, others) = (one_spares s i p change less, λ next one. all_spare s i next changes (others next one))
 
 -- ---- a job that is put aside
 
@@ -179,7 +181,7 @@ module _ (s : RevisionSetting) (is : IsSetting s) (c : Cell) (top : ℕ) (moved 
     unmoved = omega (arith, moved j (omega arith))
 
     fits_first : (kept : Node → ℕ) → AreFitting c p kept → AreFitting c (with_aside s p) kept
-    fits_first kept f = same_fits c p (with_aside s p) kept first.same (λ i k. ap (λ (rs : List (List Step)). (step_at (get_or rs i []) k).nominal) first.routes) first.cleans (λ i. ap (λ (xs : List ℕ). get_or xs i 0) first.releases) (ap length first.routes) (λ i. ap (λ (xs : List ℕ). get_or xs i 0) first.budgets) f
+    fits_first kept f = same_fits c p (with_aside s p) kept first.same (λ i k. ap (λ (rs : List (List Step)). (step_at (get_or rs i []) k).nominal) first.routes) first.cleans (λ i. omega (arith, ap (λ (xs : List ℕ). get_or xs i 0) first.releases)) (ap length first.routes) (λ i inside. omega (arith, ap (λ (xs : List ℕ). get_or xs i 0) first.budgets)) f
 
     fits_then : (kept : Node → ℕ) → AreFitting c p kept → AreFitting c (with_job_ended (with_aside s p) j 0) kept
     fits_then kept f = ended_fits c (with_aside s p) j 0 kept first.fit (omega (arith, inside, ap length first.routes)) unmoved (fits_first kept f)
@@ -291,40 +293,93 @@ module _ (s : RevisionSetting) (is : IsSetting s) (c : Cell) (top : ℕ) (moved 
       (stopped_at_lifted (without_machine s p m n) one.later m n (way_to s (without_machine s p m n) n m) refl stage.revision (omega (arith, stage.jobs_same))
       (λ k outside there. stage_room s is p m n (without_machine s p m n) k revision stage room outside there) (omega (arith, stage.jobs_same)) one.fits one.sound)
 
-  becomes_lifted : (p : PlannedShop) (kept : Node → ℕ) (change : Change) (q : PlannedShop) → AreStops (change ∷ []) → IsRevision s p → IsChangedTo s p change q → jobs p ≤ top → AreFitting c p kept → IsAsideSound s p → IsLifted p kept q
+  -- what is asked of the jobs on the machine of those that are put aside stays so
+  pub coming_sound : (p : PlannedShop) (j moment : ℕ) → IsAsideSound s p → IsAsideSound s (coming_by p j moment)
+  coming_sound p j moment sound =
+      let back = same-visits_back p (coming_by p j moment) (coming-same p j moment) in
+      record {
+        whole = λ i k visits. sound.whole i k (back i k s.plant visits);
+        timeless = λ i k visits. sound.timeless i k (back i k s.plant visits);
+        uncleaned = sound.uncleaned;
+        unpromised = λ i k visits. sound.unpromised i k (back i k s.plant visits);
+      }
+
+  pub promised_more : (p : PlannedShop) (j moment : ℕ) → IsFit p → j < jobs p → budget p j ≤ moment → (i : ℕ) → budget p i ≤ budget (promised_by p j moment) i
+  promised_more p j moment fit inside late i = elim (cases_eq i j) [
+    | inl same ↦ omega (arith, ap (budget (promised_by p j moment)) same, ap (budget p) same, promised-budget p j moment fit inside)
+    | inr other ↦ omega (arith, promised-others p j moment fit inside i other)
+  ]
+
+  pub promised_sound : (p : PlannedShop) (j moment : ℕ) → IsFit p → IsInLine s p j → IsAsideSound s p → IsAsideSound s (promised_by p j moment)
+  promised_sound p j moment fit in_line sound =
+      let back = same-visits_back p (promised_by p j moment) (promised-same p j moment) in
+      record {
+        whole = λ i k visits. sound.whole i k (back i k s.plant visits);
+        timeless = λ i k visits. sound.timeless i k (back i k s.plant visits);
+        uncleaned = sound.uncleaned;
+        unpromised = λ i k visits. elim (cases_eq i j) [
+          | inl same ↦ absurd (first (back i k s.plant visits) same)
+          | inr other ↦ promised-others p j moment fit in_line.in_shop i other ∙ sound.unpromised i k (back i k s.plant visits)
+        ];
+      }
+    where
+      first : {i k : ℕ} → Visits p i k s.plant → i ≡ j → ⊥
+      first {i} {k} visits same =
+          let here : k ≡ 0 = omega (arith, sound.whole i k visits, visits.within) in
+          in_line.not_aside (subst (λ i. Visits p i 0 s.plant) same (subst (λ k. Visits p i k s.plant) here visits))
+
+  becomes_lifted : (p : PlannedShop) (kept : Node → ℕ) (change : Change) (q : PlannedShop) → AsksNoMore p change → IsRevision s p → IsChangedTo s p change q → jobs p ≤ top → AreFitting c p kept → IsAsideSound s p → IsLifted p kept q
   becomes_lifted p kept (Until machine to) q stops revision made few_jobs f sound = absurd stops
   becomes_lifted p kept (Add words release budget) q stops revision made few_jobs f sound = absurd stops
   becomes_lifted p kept (Scrap j) q stops revision made few_jobs f sound = subst (IsLifted p kept) (sym made.is) (stopped_lifted p kept j (moves_made s j) revision made.in_shop (omega arith) made.room few_jobs f sound)
   becomes_lifted p kept (Down machine) q stops revision made few_jobs f sound = subst (IsLifted p kept) (sym made.is) (without_lifted p kept machine (jobs p) revision (omega arith) made.room few_jobs f sound)
+  becomes_lifted p kept (Route j words) q less revision made few_jobs f sound = absurd less
+  becomes_lifted p kept (Release j moment) q early revision made few_jobs f sound = subst (IsLifted p kept) (sym made.is) (record {
+    later = kept;
+    fits = same_fits c p (coming_by p j moment) kept (coming-same p j moment) (λ i k. refl) (λ m. refl) earlier refl (λ i inside. omega arith) f;
+    sound = coming_sound p j moment sound;
+    same = λ v free. refl;
+  })
+    where
+      earlier : (i : ℕ) → release (coming_by p j moment) i ≤ release p i
+      earlier i = elim (cases_eq i j) [
+        | inl same ↦ omega (arith, ap (release (coming_by p j moment)) same, ap (release p) same, coming-release p j moment revision.fit made.in_line.in_shop, early)
+        | inr other ↦ omega (arith, coming-others p j moment revision.fit made.in_line.in_shop i other)
+      ]
+  becomes_lifted p kept (Budget j moment) q late revision made few_jobs f sound = subst (IsLifted p kept) (sym made.is) (record {
+    later = kept;
+    fits = same_fits c p (promised_by p j moment) kept (promised-same p j moment) (λ i k. refl) (λ m. refl) (λ i. omega arith) refl (λ i inside. promised_more p j moment revision.fit made.in_line.in_shop late i) f;
+    sound = promised_sound p j moment revision.fit made.in_line sound;
+    same = λ v free. refl;
+  })
 
-  pub made_lifted : (p : PlannedShop) (kept : Node → ℕ) (changes : List Change) (q : PlannedShop) → AreStops changes → IsRevision s p → AreMade s p changes q → jobs q ≤ top → AreFitting c p kept → IsAsideSound s p
+  pub made_lifted : (p : PlannedShop) (kept : Node → ℕ) (changes : List Change) (q : PlannedShop) → AreAll AsksNoMore s p changes → IsRevision s p → AreMade s p changes q → jobs q ≤ top → AreFitting c p kept → IsAsideSound s p
       → (later : Node → ℕ) × AreFitting c q later × ((v : Node) → v.job < jobs p → (Visits q v.job 0 s.plant → ⊥) → later v ≡ kept v)
   made_lifted p kept [] q stops revision made few_jobs f sound = (kept, subst (λ (q : PlannedShop). AreFitting c q kept) (sym made) f, λ v inside free. refl)
-  made_lifted p kept (change ∷ changes) q stops revision (next, one, rest) few_jobs f sound =
-      let parts = first_stop change changes stops in
+  made_lifted p kept (change ∷ changes) q (less, others) revision (next, one, rest) few_jobs f sound =
       let after = becomes-revision s is p change next revision one in
       let more : jobs p ≤ jobs next = becomes-more_jobs s is p change next revision one in
       let most : jobs next ≤ jobs q = made-more_jobs s is next changes q after rest in
-      let l = becomes_lifted p kept change next parts.0 revision one (omega arith) f sound in
-      let k = made_lifted next l.later changes q parts.1 after rest few_jobs l.fits l.sound in
-      (k.0, k.1, λ v inside free. k.2 v (omega (arith, more)) free ∙ l.same v (λ visits. free (made-stays s is next changes q v.job (all_others changes parts.1) after rest (omega (arith, more)) visits)))
+      let l = becomes_lifted p kept change next less revision one (omega arith) f sound in
+      let k = made_lifted next l.later changes q (others next one) after rest few_jobs l.fits l.sound in
+      (k.0, k.1, λ v inside free. k.2 v (omega (arith, more)) free ∙ l.same v (λ visits. free (made-stays s is next changes q v.job (all_spare s v.job next changes (others next one)) after rest (omega (arith, more)) visits)))
 
   pub given_sound : IsAsideSound s s.given
   given_sound = elim is.plant [
-    | inl aside ↦ record { whole = λ i k visits. (aside.visitors i k visits).whole; timeless = λ i k visits. timeless_first aside i k visits; uncleaned = aside.uncleaned; unpromised = λ i k visits. (aside.visitors i k visits).unpromised }
-    | inr whole ↦ record {
-      whole = λ i k visits. absurd (omega (arith, visits_machine s.given i k s.plant is.shaped visits, whole.0));
-      timeless = λ i k visits. absurd (omega (arith, visits_machine s.given i k s.plant is.shaped visits, whole.0));
-      uncleaned = past s.given.plan.clean is.shaped.counts.cleanings (omega (arith, whole.0));
-      unpromised = λ i k visits. absurd (omega (arith, visits_machine s.given i k s.plant is.shaped visits, whole.0));
+    | inl whole ↦ record {
+      whole = λ i k visits. absurd (omega (arith, visits_machine s.given i k s.plant is.shaped visits, whole));
+      timeless = λ i k visits. absurd (omega (arith, visits_machine s.given i k s.plant is.shaped visits, whole));
+      uncleaned = past s.given.plan.clean is.shaped.counts.cleanings (omega (arith, whole));
+      unpromised = λ i k visits. absurd (omega (arith, visits_machine s.given i k s.plant is.shaped visits, whole));
     }
+    | inr aside ↦ record { whole = λ i k visits. (aside.visitors i k visits).whole; timeless = λ i k visits. timeless_first aside i k visits; uncleaned = aside.uncleaned; unpromised = λ i k visits. (aside.visitors i k visits).unpromised }
   ]
     where
       past : (times : Option (List ℕ)) → HasCleanCount times (machines s.given) → machines s.given ≤ s.plant → clean_in times s.plant ≡ 0
       past None counted more = refl
       past (Some times) counted more = get_or_past times s.plant 0 (omega (arith, counted))
 
-      timeless_first : IsAside s.given s.plant → (i k : ℕ) → Visits s.given i k s.plant → nominal s.given i k ≡ 0
+      timeless_first : MayBeAside s.given s.plant → (i k : ℕ) → Visits s.given i k s.plant → nominal s.given i k ≡ 0
       timeless_first aside i k visits =
           let job = aside.visitors i k visits in
           let here : k ≡ 0 = omega (arith, job.whole, visits.within) in

@@ -17,12 +17,11 @@ use Rattle.cell_tables.specs.Kept.{KeepsSoFar}
 use Rattle.cell_tables.specs.Carried.{IsCarried, carried_cleaning}
 use Rattle.cell_tables.specs.KeptLaw.{AKeptRunIsOneOfTheOtherPlan}
 use Rattle.plan_revise.specs.declared.change.Change.{Change}
-use Rattle.plan_revise.specs.declared.change.Change.TheVariants.{Until, Add, Scrap, Down}
 use Rattle.plan_revise.specs.Settings.{RevisionSetting, setting}
-use Rattle.plan_revise.specs.Aside.{IsPlant}
 use Rattle.plan_revise.specs.Revised.{AreMade}
 use Rattle.plan_revise.specs.Paths.{HasLonger}
-use Rattle.plan_revise.specs.RevisedLaw.{IsRevisedRun, TheRunSoFarStays, NoCycleComes, AreOthers, NobodyElseIsLater}
+use Rattle.plan_revise.specs.Effects.{AreAll, SparesJob}
+use Rattle.plan_revise.specs.RevisedLaw.{IsRevisedRun, TheRunSoFarStays, NoCycleComes, NobodyElseIsLater}
 use Rattle.plan_revise.specs.Fits.{IsRevision, IsSetting}
 use Rattle.plan_revise.proofs.Fitting.{fits_shaped}
 use Rattle.plan_revise.proofs.Revisions.{given_revision, becomes-revision}
@@ -40,34 +39,25 @@ module _ (s : RevisionSetting) (is : IsSetting s) where
   made-no_cycle p (change ∷ changes) q revision (next, one, rest) acyclic =
       made-no_cycle next changes q (becomes-revision s is p change next revision one) rest (becomes-no_cycle s is p change next revision one acyclic)
 
-  first_other : (change : Change) (changes : List Change) → AreOthers (change ∷ changes) → AreOthers (change ∷ []) × AreOthers changes
-  first_other (Until machine to) changes others = absurd others
-  first_other (Add words release budget) changes others = (tt, others)
-  first_other (Scrap j) changes others = (tt, others)
-  first_other (Down machine) changes others = (tt, others)
-
-  pub made-stays : (p : PlannedShop) (changes : List Change) (q : PlannedShop) (i : ℕ) → AreOthers changes → IsRevision s p → AreMade s p changes q → i < jobs p → Visits p i 0 s.plant → Visits q i 0 s.plant
-  made-stays p [] q i others revision made inside visits = subst (λ (q : PlannedShop). Visits q i 0 s.plant) (sym made) visits
-  made-stays p (change ∷ changes) q i others revision (next, one, rest) inside visits =
-      let parts = first_other change changes others in
-      made-stays next changes q i parts.1 (becomes-revision s is p change next revision one) rest (omega (arith, becomes-more_jobs s is p change next revision one)) (becomes-stays s is p change next i parts.0 revision one inside visits)
+  pub made-stays : (p : PlannedShop) (changes : List Change) (q : PlannedShop) (i : ℕ) → AreAll (SparesJob s i) s p changes → IsRevision s p → AreMade s p changes q → i < jobs p → Visits p i 0 s.plant → Visits q i 0 s.plant
+  made-stays p [] q i spares revision made inside visits = subst (λ (q : PlannedShop). Visits q i 0 s.plant) (sym made) visits
+  made-stays p (change ∷ changes) q i (first, others) revision (next, one, rest) inside visits =
+      made-stays next changes q i (others next one) (becomes-revision s is p change next revision one) rest (omega (arith, becomes-more_jobs s is p change next revision one)) (becomes-stays s is p change next i first revision one inside visits)
 
   pub made-more_jobs : (p : PlannedShop) (changes : List Change) (q : PlannedShop) → IsRevision s p → AreMade s p changes q → jobs p ≤ jobs q
   made-more_jobs p [] q revision made = omega (arith, ap jobs made)
   made-more_jobs p (change ∷ changes) q revision (next, one, rest) =
       omega (arith, becomes-more_jobs s is p change next revision one, made-more_jobs next changes q (becomes-revision s is p change next revision one) rest)
 
-  made_path : (c : Cell) (t : ℕ) → ((m : ℕ) → entries c m ≡ entries s.cell m) → (p : PlannedShop) (changes : List Change) (q : PlannedShop) → AreOthers changes → IsRevision s p → AreMade s p changes q
-      → (nodes : List Node) (v : Node) (size : ℕ) → PathAhead q c t nodes v size → (Visits q v.job 0 s.plant → ⊥) → v.job < jobs p → HasLonger p c t v size
-  made_path c t same p [] q others revision made nodes v size path free there =
+  made_path : (c : Cell) (t : ℕ) → ((m : ℕ) → entries c m ≡ entries s.cell m) → (p : PlannedShop) (changes : List Change) (q : PlannedShop) (nodes : List Node) (v : Node) (size : ℕ) → AreAll (SparesJob s v.job) s p changes → IsRevision s p → AreMade s p changes q → PathAhead q c t nodes v size → (Visits q v.job 0 s.plant → ⊥) → v.job < jobs p → HasLonger p c t v size
+  made_path c t same p [] q nodes v size others revision made path free there =
       record { nodes = nodes; size = size; path = subst (λ (q : PlannedShop). PathAhead q c t nodes v size) made path; longer = omega arith }
-  made_path c t same p (change ∷ changes) q others revision (next, one, rest) nodes v size path free there =
-      let parts = first_other change changes others in
+  made_path c t same p (change ∷ changes) q nodes v size (first, others) revision (next, one, rest) path free there =
       let after = becomes-revision s is p change next revision one in
       let more = becomes-more_jobs s is p change next revision one in
-      let l = made_path c t same next changes q parts.1 after rest nodes v size path free (omega arith) in
-      let k = becomes_path s is c t same p change next parts.0 revision one l.nodes v l.size l.path
-      (λ visits. free (made-stays next changes q v.job parts.1 after rest (omega arith) visits)) there in
+      let l = made_path c t same next changes q nodes v size (others next one) after rest path free (omega arith) in
+      let k = becomes_path s is c t same p change next l.nodes v l.size first revision one l.path
+      (λ visits. free (made-stays next changes q v.job (others next one) after rest (omega arith) visits)) there in
       record { nodes = k.nodes; size = k.size; path = k.path; longer = omega (arith, l.longer, k.longer) }
 
   -- the run so far keeps it
@@ -89,25 +79,25 @@ module _ (s : RevisionSetting) (is : IsSetting s) where
 
 -- ---- the setting of a revised run
 
-module _ (p q : PlannedShop) (es : List Event) (t : ℕ) (changes : List Change) (r : IsRevisedRun p es t changes q) where
-  pub run_setting : IsSetting (setting p (ends_in p es) t r.revised.plant)
-  run_setting = record { shaped = r.shaped; sound = run-sound p es r.shaped r.run; present = r.present; plant = r.revised.is_plant }
+module _ (p q : PlannedShop) (es : List Event) (t plant : ℕ) (changes : List Change) (r : IsRevisedRun p es t plant changes q) where
+  pub run_setting : IsSetting (setting p (ends_in p es) t plant)
+  run_setting = record { shaped = r.shaped; sound = run-sound p es r.shaped r.run; present = r.present; plant = r.is_plant }
 
-  pub run_revision : IsRevision (setting p (ends_in p es) t r.revised.plant) q
-  run_revision = made-revision (setting p (ends_in p es) t r.revised.plant) run_setting p changes q (given_revision (setting p (ends_in p es) t r.revised.plant) run_setting) r.revised.made
+  pub run_revision : IsRevision (setting p (ends_in p es) t plant) q
+  run_revision = made-revision (setting p (ends_in p es) t plant) run_setting p changes q (given_revision (setting p (ends_in p es) t plant) run_setting) r.made
 
   pub revised_shaped : IsWellShaped q
   revised_shaped = fits_shaped q run_revision.fit run_revision.some_step
 
 pub run_stays : AKeptRunIsOneOfTheOtherPlan → TheRunSoFarStays
-run_stays kept p q es t changes r =
-    let shaped = revised_shaped p q es t changes r in
-    let both = kept p q es r.shaped shaped r.run (keeps (setting p (ends_in p es) t r.revised.plant) (run_setting p q es t changes r) q (run_revision p q es t changes r)) in
+run_stays kept p q es t plant changes r =
+    let shaped = revised_shaped p q es t plant changes r in
+    let both = kept p q es r.shaped shaped r.run (keeps (setting p (ends_in p es) t plant) (run_setting p q es t plant changes r) q (run_revision p q es t plant changes r)) in
     (shaped, both.0, both.1)
 
 pub no_cycle : NoCycleComes
-no_cycle p q es t changes r acyclic =
-    made-no_cycle (setting p (ends_in p es) t r.revised.plant) (run_setting p q es t changes r) p changes q (given_revision (setting p (ends_in p es) t r.revised.plant) (run_setting p q es t changes r)) r.revised.made acyclic
+no_cycle p q es t plant changes r acyclic =
+    made-no_cycle (setting p (ends_in p es) t plant) (run_setting p q es t plant changes r) p changes q (given_revision (setting p (ends_in p es) t plant) (run_setting p q es t plant changes r)) r.made acyclic
 
 -- ---- paths ahead of two cells that are the same but for what the plan hasn't
 
@@ -192,22 +182,15 @@ to_leaving p c t j k size l =
 
 -- ---- nobody else is later
 
--- there is one number of machines of the plant
-pub plant_once : (p : PlannedShop) (a b : ℕ) → IsPlant p a → IsPlant p b → a ≡ b
-plant_once p a b (inl one) (inl other) = omega (arith, one.last, other.last)
-plant_once p a b (inl one) (inr other) = absurd (other.1 a one)
-plant_once p a b (inr one) (inl other) = absurd (one.1 b other)
-plant_once p a b (inr one) (inr other) = omega (arith, one.0, other.0)
-
-module _ (kept : AKeptRunIsOneOfTheOtherPlan) (p q : PlannedShop) (es : List Event) (t : ℕ) (changes : List Change) (r : IsRevisedRun p es t changes q) (others : AreOthers changes) where
+module _ (kept : AKeptRunIsOneOfTheOtherPlan) (p q : PlannedShop) (es : List Event) (t plant : ℕ) (changes : List Change) (r : IsRevisedRun p es t plant changes q) where
   carried : IsCarried p (ends_in p es) q (ends_in q es)
-  carried = (run_stays kept p q es t changes r).2
+  carried = (run_stays kept p q es t plant changes r).2
 
   entries_there : (m : ℕ) → entries (ends_in q es) m ≡ entries (ends_in p es) m
   entries_there m = elim (cases_lt m (machines q)) [
     | inl inside ↦ carried.entries_same m inside
     | inr past ↦ ap (λ (x : MachineState). x.entries) (get_or_past (ends_in q es).machines m unused (omega (arith, carried.machine_count)))
-        ∙ sym (ap (λ (x : MachineState). x.entries) (get_or_past (ends_in p es).machines m unused (omega (arith, (run-sound p es r.shaped r.run).machine_count, (run_revision p q es t changes r).no_fewer))))
+        ∙ sym (ap (λ (x : MachineState). x.entries) (get_or_past (ends_in p es).machines m unused (omega (arith, (run-sound p es r.shaped r.run).machine_count, (run_revision p q es t plant changes r).no_fewer))))
   ]
 
   cleaning_there : (m from : ℕ) → cleaning (ends_in q es) m ≡ Some from → cleaning (ends_in p es) m ≡ Some from
@@ -230,19 +213,17 @@ module _ (kept : AKeptRunIsOneOfTheOtherPlan) (p q : PlannedShop) (es : List Eve
       timed (inr untimed) is = absurd (never (carried_cleaning (ends_in p es) q m) (untimed_none untimed) is)
 
   pub jobs_there : (j : ℕ) → j < jobs p → job_in (ends_in q es) j ≡ job_in (ends_in p es) j
-  jobs_there j inside = carried.jobs_same j (omega (arith, (run_revision p q es t changes r).kept.jobs_there)) ∙ rw (lt-ltb j (jobs p) inside) refl
+  jobs_there j inside = carried.jobs_same j (omega (arith, (run_revision p q es t plant changes r).kept.jobs_there)) ∙ rw (lt-ltb j (jobs p) inside) refl
 
-  path_there : (plant j : ℕ) → IsPlant p plant → j < jobs p → (Visits q j 0 plant → ⊥) → (k : ℕ) (nodes : List Node) (n : ℕ) → PathAhead q (ends_in q es) t nodes (node j k) n → HasLonger p (ends_in p es) t (node j k) n
-  path_there plant j is_plant inside free k nodes n path =
-      let s = run_setting p q es t changes r in
-      let same = plant_once p r.revised.plant plant r.revised.is_plant is_plant in
-      let l = made_path (setting p (ends_in p es) t r.revised.plant) s (ends_in q es) t entries_there p changes q others (given_revision (setting p (ends_in p es) t r.revised.plant) s) r.revised.made nodes (node j k) n path
-      (λ visits. free (subst (λ m. Visits q j 0 m) same visits)) inside in
+  path_there : (j : ℕ) → AreAll (SparesJob (setting p (ends_in p es) t plant) j) (setting p (ends_in p es) t plant) p changes → j < jobs p → (Visits q j 0 plant → ⊥) → (k : ℕ) (nodes : List Node) (n : ℕ) → PathAhead q (ends_in q es) t nodes (node j k) n → HasLonger p (ends_in p es) t (node j k) n
+  path_there j spares inside free k nodes n path =
+      let s = run_setting p q es t plant changes r in
+      let l = made_path (setting p (ends_in p es) t plant) s (ends_in q es) t entries_there p changes q nodes (node j k) n spares (given_revision (setting p (ends_in p es) t plant) s) r.made path free inside in
       let back = recelled p (ends_in p es) (ends_in q es) t jobs_there entries_there cleaning_there l.nodes (node j k) l.size l.path inside in
       record { nodes = back.nodes; size = back.size; path = back.path; longer = omega (arith, l.longer, back.longer) }
 
 pub nobody_later : AKeptRunIsOneOfTheOtherPlan → NobodyElseIsLater
-nobody_later kept p q es t changes r others plant j is_plant inside free = record {
-  leaves = λ nodes n path. to_leaving p (ends_in p es) t j (steps q j) n (path_there kept p q es t changes r others plant j is_plant inside free (steps q j) nodes n path);
-  moves = λ k nodes n path. path_there kept p q es t changes r others plant j is_plant inside free k nodes n path;
+nobody_later kept p q es t plant changes r j spares inside free = record {
+  leaves = λ nodes n path. to_leaving p (ends_in p es) t j (steps q j) n (path_there kept p q es t plant changes r j spares inside free (steps q j) nodes n path);
+  moves = λ k nodes n path. path_there kept p q es t plant changes r j spares inside free k nodes n path;
 }

@@ -92,7 +92,7 @@ pub count_no : (f : ℕ → Bool) (n : ℕ) → ((i : ℕ) → i < n → f i ≡
 count_no f zero none = refl
 count_no f (suc n) none = omega (arith, count_no f n (λ i less. none i (omega arith)), ap {B = ℕ} (λ (b : Bool). cond b 1 0) (none n (omega arith)))
 
-count_first : (f : ℕ → Bool) (n : ℕ) → count_below f (suc n) ≡ cond (f 0) 1 0 + count_below (λ i. f (suc i)) n
+pub count_first : (f : ℕ → Bool) (n : ℕ) → count_below f (suc n) ≡ cond (f 0) 1 0 + count_below (λ i. f (suc i)) n
 count_first f zero = omega arith
 count_first f (suc n) = omega (arith, count_first f n)
 
@@ -128,10 +128,10 @@ again_last : (f : List ℕ → List ℕ) (n : ℕ) (xs : List ℕ) → again f n
 again_last f zero xs = refl
 again_last f (suc n) xs = again_last f n (f xs)
 
-visits_here : (s : Step) (ss : List Step) (m : ℕ) → s.machine ≡ m → visits_in (s ∷ ss) m ≡ suc (visits_in ss m)
+pub visits_here : (s : Step) (ss : List Step) (m : ℕ) → s.machine ≡ m → visits_in (s ∷ ss) m ≡ suc (visits_in ss m)
 visits_here s ss m here = rw (eq-eqb s.machine m here) refl
 
-visits_there : (s : Step) (ss : List Step) (m : ℕ) → s.machine ≢ m → visits_in (s ∷ ss) m ≡ visits_in ss m
+pub visits_there : (s : Step) (ss : List Step) (m : ℕ) → s.machine ≢ m → visits_in (s ∷ ss) m ≡ visits_in ss m
 visits_there s ss m there = rw (ne_eqb s.machine m there) refl
 
 -- an order changes as often as steps are on its machine

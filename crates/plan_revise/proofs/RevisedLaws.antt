@@ -1,12 +1,12 @@
 -- The laws of revised plans: each change keeps the run, brings no cycle, and makes nobody else later.
 use Rattle.std.proofs.Common.{◌≡◌, ◌≢◌, ℕ, zero, suc, ◌+◌, ◌<◌, ◌≤◌, inl, inr, List, [], ◌∷◌, ◌++◌, length, get_or, min, max, Option, None, Some, refl, sym, ap, ◌∙◌, subst, arith, length-append, ◌-◌}
-use Rattle.std.proofs.lemmas.Bool.{cases_eq}
+use Rattle.std.proofs.lemmas.Bool.{cases_eq, cases_lt}
 use Rattle.std.proofs.lemmas.List.{get_or-set_other, length-set}
 use Rattle.shop_base.specs.declared.node.Node.{Node}
 use Rattle.shop_base.specs.declared.limits.TheConstants.{MAX_RELEASE}
 use Rattle.shop_base.specs.declared.shop.Step.{Step}
 use Rattle.shop_base.specs.Shop.{step_at}
-use Rattle.shop_base.specs.Plan.{PlannedShop, jobs, route, nominal, clean, release, Visits}
+use Rattle.shop_base.specs.Plan.{PlannedShop, jobs, route, nominal, clean, release, budget, Visits}
 use Rattle.shop_base.specs.Cell.{Cell, made, since, entries, IsGone}
 use Rattle.shop_base.specs.Activity.{Arrival, Operation, Cleaning}
 use Rattle.shop_base.specs.Graph.{node, Arc, job_arc, blocking_arc, HasArc, ArcsLead}
@@ -14,7 +14,7 @@ use Rattle.shop_base.specs.Ahead.{PathAhead, now, held, onward}
 use Rattle.shop_base.proofs.Cycles.{source_node}
 use Rattle.plan_verifier.specs.Accepted.{HasNoCycle}
 use Rattle.plan_revise.specs.declared.change.Change.{Change}
-use Rattle.plan_revise.specs.declared.change.Change.TheVariants.{Until, Add, Scrap, Down}
+use Rattle.plan_revise.specs.declared.change.Change.TheVariants.{Until, Add, Scrap, Down, Route, Release, Budget}
 use Rattle.plan_revise.specs.Promises.{no_promise}
 use Rattle.plan_revise.specs.Ended.{with_job_ended}
 use Rattle.plan_revise.specs.Placed.{with_new_job, added}
@@ -22,18 +22,22 @@ use Rattle.plan_revise.specs.Settings.{RevisionSetting, moves_made, HasLeftCell}
 use Rattle.plan_revise.specs.Aside.{aside_route, with_aside, HasRoom, put_aside}
 use Rattle.plan_revise.specs.Stopped.{present_step, way_to, stopped, stopped_at, without_machine}
 use Rattle.plan_revise.specs.Changes.{lasting, given_or, IsChangedTo}
+use Rattle.plan_revise.specs.Dates.{coming_by, promised_by}
 use Rattle.plan_revise.specs.Fits.{IsFit, IsKept, IsRevision, IsSetting}
 use Rattle.plan_revise.specs.Paths.{HasLonger}
-use Rattle.plan_revise.specs.RevisedLaw.{AreOthers}
+use Rattle.plan_revise.specs.AnotherWay.{sent_outside, IsSentInside}
+use Rattle.plan_revise.specs.Effects.{SparesJob}
 use Rattle.plan_revise.specs.Stages.{IsStage}
 use Rattle.plan_revise.proofs.Ways.{way_visits}
 use Rattle.plan_revise.proofs.EndedParts.{EndsOnce, ended-ends, ended_by, visits_mine, visits_others}
-use Rattle.plan_revise.proofs.PlacedParts.{SameVisits, same-stands_back, same-visits_back, default_more, with_job-same}
+use Rattle.plan_revise.proofs.SentOn.{all-no_cycle}
+use Rattle.plan_revise.proofs.DatesMoved.{coming-same, promised-same, coming-release, coming-others}
+use Rattle.plan_revise.proofs.PlacedParts.{SameVisits, same-visits, same-stands_back, same-visits_back, default_more, with_job-same}
 use Rattle.plan_revise.proofs.Keeping.{moves_given, unentered, once_keep}
 use Rattle.alt_graph.proofs.ClosedWalks.{no_cycle_by_ways}
 use Rattle.plan_revise.proofs.EndedArcs.{ended-no_cycle, once-path}
 use Rattle.plan_revise.proofs.PlacedArcs.{placed-no_cycle, placed-path}
-use Rattle.plan_revise.proofs.Revisions.{HasAside, has_aside, aside_inside, aside_fit, aside_places, aside_others, stopped_outside, stopped_inside, stage_upto, stage_room, added_fit, added_places, prolonged_same, prolonged_jobs, stopped-one}
+use Rattle.plan_revise.proofs.Revisions.{HasAside, has_aside, aside_inside, aside_fit, aside_places, aside_others, stopped_outside, stopped_inside, stage_upto, stage_room, added_fit, added_places, prolonged_same, prolonged_jobs, stopped-one, sent_fit, sent_places, rerouted-one}
 
 -- ---- what is read the same has the same ways and paths
 
@@ -48,8 +52,8 @@ module _ (p q : PlannedShop) (same : SameVisits p q) where
   pub same-no_cycle : HasNoCycle p → HasNoCycle q
   same-no_cycle acyclic = no_cycle_by_ways p q same_way acyclic
 
-  -- with the same times too
-  module _ (times : (j k : ℕ) → nominal q j k ≡ nominal p j k) (cleans : (m : ℕ) → clean q m ≡ clean p m) (releases : (j : ℕ) → release q j ≡ release p j) (c : Cell) (t : ℕ) where
+  -- with the same times too, and releases that are no later
+  module _ (times : (j k : ℕ) → nominal q j k ≡ nominal p j k) (cleans : (m : ℕ) → clean q m ≡ clean p m) (releases : (j : ℕ) → release q j ≤ release p j) (c : Cell) (t : ℕ) where
     pub same_arc : (u v : Node) (d : ℕ) → Arc q u v d → Arc p u v d
     same_arc _ _ _ (job_arc j k within) = subst (λ d. Arc p (node j k) (node j (k + 1)) d) (sym (times j k)) (job_arc j k (omega (arith, same.lengths j)))
     same_arc _ _ _ (blocking_arc m a i k l g one other) =
@@ -64,9 +68,9 @@ module _ (p q : PlannedShop) (same : SameVisits p q) where
     }
     same-path _ _ _ (held (Arrival i) due v goes holds) inside = record {
       nodes = v ∷ [];
-      size = due;
-      path = held (Arrival i) due v (record { outside = goes.outside; not_ready = goes.not_ready; is_due = goes.is_due ∙ releases i }) holds;
-      longer = omega arith;
+      size = release p i;
+      path = held (Arrival i) (release p i) v (record { outside = goes.outside; not_ready = goes.not_ready; is_due = refl }) holds;
+      longer = omega (arith, goes.is_due, releases i);
     }
     same-path _ _ _ (held (Operation i m) due v (k, goes) holds) inside = record {
       nodes = v ∷ [];
@@ -129,6 +133,17 @@ module _ (s : RevisionSetting) (is : IsSetting s) where
       (same-no_cycle p (with_new_job p) (with_job-same p) acyclic))
   becomes-no_cycle p (Scrap j) q revision made acyclic = subst HasNoCycle (sym made.is) (stopped-no_cycle p j (moves_made s j) revision made.in_shop made.room acyclic)
   becomes-no_cycle p (Down machine) q revision made acyclic = subst HasNoCycle (sym made.is) (without-no_cycle p machine (jobs p) revision (omega arith) made.room acyclic)
+  becomes-no_cycle p (Route j words) q revision made acyclic = elim (cases_lt 0 (moves_made s j)) [
+    | inl moved ↦ (let one : IsSentInside s p j made.steps q = made.inside moved in
+        subst HasNoCycle (sym one.is) (same-no_cycle one.sent (promised_by one.sent j (budget p j)) (promised-same one.sent j (budget p j))
+        (all-no_cycle s j (with_job_ended p j (moves_made s j)) made.steps one.sent one.behind (ended-no_cycle p j (moves_made s j) revision.fit made.can.in_shop acyclic))))
+    | inr few ↦ (let outside : moves_made s j ≡ 0 = omega arith in
+        subst HasNoCycle (sym (made.outside outside)) (placed-no_cycle (with_job_ended p j 0) j made.steps (release p j) (budget p j) (sent_outside p j made.steps)
+        (sent_fit s is p j made.steps revision made.can.in_shop outside made.sound) (sent_places s is p j made.steps revision made.can.in_shop outside made.sound)
+        (ended-no_cycle p j 0 revision.fit made.can.in_shop acyclic)))
+  ]
+  becomes-no_cycle p (Release j moment) q revision made acyclic = subst HasNoCycle (sym made.is) (same-no_cycle p (coming_by p j moment) (coming-same p j moment) acyclic)
+  becomes-no_cycle p (Budget j moment) q revision made acyclic = subst HasNoCycle (sym made.is) (same-no_cycle p (promised_by p j moment) (promised-same p j moment) acyclic)
 
   -- ---- who is put aside stays so
 
@@ -176,13 +191,18 @@ module _ (s : RevisionSetting) (is : IsSetting s) where
   added-others : (p : PlannedShop) (r : List Step) (release budget i : ℕ) → IsRevision s p → i < jobs p → route (added p r release budget) i ≡ route p i
   added-others p r release budget i revision inside = get_or-set_other (with_new_job p).shop.routes (jobs p) i r [] (omega arith) ∙ default_more p.shop.routes [] i
 
-  pub becomes-stays : (p : PlannedShop) (change : Change) (q : PlannedShop) (i : ℕ) → AreOthers (change ∷ []) → IsRevision s p → IsChangedTo s p change q → i < jobs p → Visits p i 0 s.plant → Visits q i 0 s.plant
-  becomes-stays p (Until machine to) q i others revision made inside visits = absurd others
-  becomes-stays p (Add words release budget) q i others revision made inside visits =
+  pub becomes-stays : (p : PlannedShop) (change : Change) (q : PlannedShop) (i : ℕ) → SparesJob s i p change → IsRevision s p → IsChangedTo s p change q → i < jobs p → Visits p i 0 s.plant → Visits q i 0 s.plant
+  becomes-stays p (Until machine to) q i spares revision made inside visits = absurd spares
+  becomes-stays p (Add words release budget) q i spares revision made inside visits =
       let same = added-others p made.steps (given_or release s.present) (given_or budget no_promise) i revision inside in
       subst (λ (q : PlannedShop). Visits q i 0 s.plant) (sym made.is) (record { within = omega (arith, ap length same, visits.within); here = ap (λ (r : List Step). (step_at r 0).machine) same ∙ visits.here })
-  becomes-stays p (Scrap j) q i others revision made inside visits = subst (λ (q : PlannedShop). Visits q i 0 s.plant) (sym made.is) (stopped-stays p j (moves_made s j) i revision made.in_shop (omega arith) made.room visits)
-  becomes-stays p (Down machine) q i others revision made inside visits = subst (λ (q : PlannedShop). Visits q i 0 s.plant) (sym made.is) (without-stays p machine (jobs p) i revision (omega arith) made.room visits)
+  becomes-stays p (Scrap j) q i spares revision made inside visits = subst (λ (q : PlannedShop). Visits q i 0 s.plant) (sym made.is) (stopped-stays p j (moves_made s j) i revision made.in_shop (omega arith) made.room visits)
+  becomes-stays p (Down machine) q i spares revision made inside visits = subst (λ (q : PlannedShop). Visits q i 0 s.plant) (sym made.is) (without-stays p machine (jobs p) i revision (omega arith) made.room visits)
+  becomes-stays p (Route j words) q i (outside, other) revision made inside visits =
+      let same = (rerouted-one s is p j words.now q revision made).others i other in
+      record { within = omega (arith, ap length same, visits.within); here = ap (λ (r : List Step). (step_at r 0).machine) same ∙ visits.here }
+  becomes-stays p (Release j moment) q i spares revision made inside visits = subst (λ (q : PlannedShop). Visits q i 0 s.plant) (sym made.is) (same-visits p (coming_by p j moment) (coming-same p j moment) i 0 s.plant visits)
+  becomes-stays p (Budget j moment) q i spares revision made inside visits = subst (λ (q : PlannedShop). Visits q i 0 s.plant) (sym made.is) (same-visits p (promised_by p j moment) (promised-same p j moment) i 0 s.plant visits)
 
   -- no job is taken away
   pub becomes-more_jobs : (p : PlannedShop) (change : Change) (q : PlannedShop) → IsRevision s p → IsChangedTo s p change q → jobs p ≤ jobs q
@@ -191,6 +211,9 @@ module _ (s : RevisionSetting) (is : IsSetting s) where
       omega (arith, ap jobs made.is, length-set (with_new_job p).shop.routes (jobs p) made.steps, length-append p.shop.routes ([] ∷ []))
   becomes-more_jobs p (Scrap j) q revision made = omega (arith, ap jobs made.is, (stopped-one s p j (moves_made s j) is revision made.in_shop made.here (omega arith) made.room).jobs_same)
   becomes-more_jobs p (Down machine) q revision made = omega (arith, ap jobs made.is, (stage_upto s is p machine (jobs p) revision (omega arith) made.room).jobs_same)
+  becomes-more_jobs p (Route j words) q revision made = omega (arith, (rerouted-one s is p j words.now q revision made).jobs_same)
+  becomes-more_jobs p (Release j moment) q revision made = omega (arith, ap jobs made.is)
+  becomes-more_jobs p (Budget j moment) q revision made = omega (arith, ap jobs made.is)
 
   -- ---- nobody else is later, by one cell of all these plans
 
@@ -229,7 +252,7 @@ module _ (s : RevisionSetting) (is : IsSetting s) where
 
         three : HasLonger p c t v two.size
         three = same-path p (with_aside s p) first.same (λ i k. ap (λ (rs : List (List Step)). (step_at (get_or rs i []) k).nominal) first.routes) first.cleans
-            (λ i. ap (λ (xs : List ℕ). get_or xs i 0) first.releases) c t two.nodes v two.size two.path there
+            (λ i. omega (arith, ap (λ (xs : List ℕ). get_or xs i 0) first.releases)) c t two.nodes v two.size two.path there
 
     stopped_path : (p : PlannedShop) (j n : ℕ) → IsRevision s p → j < jobs p → (HasLeftCell s p j → ⊥) → moves_made s j ≤ n → (moves_made s j ≡ 0 → HasRoom s p)
         → (nodes : List Node) (v : Node) (size : ℕ) → PathAhead (stopped s p j n) c t nodes v size → IsFree (stopped s p j n) v.job → v.job < jobs p → HasLonger p c t v size
@@ -259,10 +282,9 @@ module _ (s : RevisionSetting) (is : IsSetting s) where
         (λ k outside there. stage_room s is p m n (without_machine s p m n) k revision stage room outside there) visits)) there in
         record { nodes = two.nodes; size = two.size; path = two.path; longer = omega (arith, one.longer, two.longer) }
 
-    pub becomes_path : (p : PlannedShop) (change : Change) (q : PlannedShop) → AreOthers (change ∷ []) → IsRevision s p → IsChangedTo s p change q
-        → (nodes : List Node) (v : Node) (size : ℕ) → PathAhead q c t nodes v size → IsFree q v.job → v.job < jobs p → HasLonger p c t v size
-    becomes_path p (Until machine to) q others revision made nodes v size path free there = absurd others
-    becomes_path p (Add words release budget) q others revision made nodes v size path free there =
+    pub becomes_path : (p : PlannedShop) (change : Change) (q : PlannedShop) (nodes : List Node) (v : Node) (size : ℕ) → SparesJob s v.job p change → IsRevision s p → IsChangedTo s p change q → PathAhead q c t nodes v size → IsFree q v.job → v.job < jobs p → HasLonger p c t v size
+    becomes_path p (Until machine to) q nodes v size spares revision made path free there = absurd spares
+    becomes_path p (Add words release budget) q nodes v size spares revision made path free there =
         record { nodes = two.nodes; size = two.size; path = two.path; longer = omega (arith, one.longer, two.longer) }
       where
         one : HasLonger (with_new_job p) c t v size
@@ -271,8 +293,29 @@ module _ (s : RevisionSetting) (is : IsSetting s) where
             (subst (λ (q : PlannedShop). PathAhead q c t nodes v size) made.is path) (omega arith)
 
         two : HasLonger p c t v one.size
-        two = same-path p (with_new_job p) (with_job-same p) (λ i k. ap (λ (r : List Step). (step_at r k).nominal) (default_more p.shop.routes [] i)) (λ m. refl) (λ i. default_more p.plan.release 0 i) c t one.nodes v one.size one.path there
-    becomes_path p (Scrap j) q others revision made nodes v size path free there =
+        two = same-path p (with_new_job p) (with_job-same p) (λ i k. ap (λ (r : List Step). (step_at r k).nominal) (default_more p.shop.routes [] i)) (λ m. refl) (λ i. omega (arith, default_more p.plan.release 0 i)) c t one.nodes v one.size one.path there
+    becomes_path p (Scrap j) q nodes v size spares revision made path free there =
         stopped_path p j (moves_made s j) revision made.in_shop made.here (omega arith) made.room nodes v size (subst (λ (q : PlannedShop). PathAhead q c t nodes v size) made.is path) (subst (λ (q : PlannedShop). IsFree q v.job) made.is free) there
-    becomes_path p (Down machine) q others revision made nodes v size path free there =
+    becomes_path p (Down machine) q nodes v size spares revision made path free there =
         without_path p machine (jobs p) revision (omega arith) made.room nodes v size (subst (λ (q : PlannedShop). PathAhead q c t nodes v size) made.is path) (subst (λ (q : PlannedShop). IsFree q v.job) made.is free) there
+    becomes_path p (Route j words) q nodes v size (outside, other) revision made path free there =
+        record { nodes = two.nodes; size = two.size; path = two.path; longer = omega (arith, one.longer, two.longer) }
+      where
+        one : HasLonger (with_job_ended p j 0) c t v size
+        one = placed-path (with_job_ended p j 0) j made.steps (release p j) (budget p j) (sent_outside p j made.steps)
+            (sent_fit s is p j made.steps revision made.can.in_shop outside made.sound) (sent_places s is p j made.steps revision made.can.in_shop outside made.sound) c t nodes v size
+            (subst (λ (q : PlannedShop). PathAhead q c t nodes v size) (made.outside outside) path) other
+
+        two : HasLonger p c t v one.size
+        two = cut_path p j 0 revision.fit made.can.in_shop revision.kept (λ given. omega (arith, moves_given s j given, outside))
+            (λ given gone. omega (arith, gone, moves_given s j given, outside)) one.nodes v one.size one.path
+    becomes_path p (Release j moment) q nodes v size early revision made path free there =
+        same-path p (coming_by p j moment) (coming-same p j moment) (λ i k. refl) (λ m. refl) earlier c t nodes v size (subst (λ (q : PlannedShop). PathAhead q c t nodes v size) made.is path) there
+      where
+        earlier : (i : ℕ) → release (coming_by p j moment) i ≤ release p i
+        earlier i = elim (cases_eq i j) [
+          | inl same ↦ omega (arith, ap (release (coming_by p j moment)) same, ap (release p) same, coming-release p j moment revision.fit made.in_line.in_shop, early)
+          | inr other ↦ omega (arith, coming-others p j moment revision.fit made.in_line.in_shop i other)
+        ]
+    becomes_path p (Budget j moment) q nodes v size spares revision made path free there =
+        same-path p (promised_by p j moment) (promised-same p j moment) (λ i k. refl) (λ m. refl) (λ i. omega arith) c t nodes v size (subst (λ (q : PlannedShop). PathAhead q c t nodes v size) made.is path) there

@@ -1,29 +1,33 @@
 -- What a change makes fits again, and keeps the run so far.
-use Rattle.std.proofs.Common.{◌≡◌, ◌≢◌, ℕ, zero, suc, ◌+◌, ◌<◌, ◌≤◌, ◌⊎◌, inl, inr, List, [], ◌∷◌, length, get_or, min, max, Option, None, Some, Bool, if◌then◌else◌, refl, sym, ap, ◌∙◌, subst, arith, length-append, add-one, ◌-◌}
+use Rattle.std.proofs.Common.{◌≡◌, ◌≢◌, ℕ, zero, suc, ◌+◌, ◌<◌, ◌≤◌, ◌⊎◌, inl, inr, List, [], ◌∷◌, ◌++◌, take, length, get_or, min, max, Option, None, Some, Bool, if◌then◌else◌, refl, sym, ap, ◌∙◌, subst, arith, length-append, add-one, ◌-◌}
 use Rattle.std.proofs.lemmas.Bool.{cases_eq, eq-eqb, ne_eqb, cases_lt, le-ltb}
 use Rattle.std.proofs.lemmas.List.{length-set, get_or_past, length-take}
 use Rattle.shop_base.specs.declared.shop.Step.{Step}
 use Rattle.shop_base.specs.declared.limits.TheConstants.{MAX_JOBS, MAX_RELEASE, MAX_MOMENT}
 use Rattle.shop_base.specs.Shop.{IsRoute, IsSoundStep, step_at}
-use Rattle.shop_base.specs.Plan.{PlannedShop, jobs, machines, route, steps, clean, Visits}
+use Rattle.shop_base.specs.Plan.{PlannedShop, jobs, machines, route, steps, release, budget, clean, Visits}
 use Rattle.shop_base.specs.Cell.{made, since}
 use Rattle.shop_base.proofs.Visits.{visits_job}
 use Rattle.plan_revise.specs.declared.change.Change.{Change}
-use Rattle.plan_revise.specs.declared.change.Change.TheVariants.{Until, Add, Scrap, Down}
+use Rattle.plan_revise.specs.declared.change.Change.TheVariants.{Until, Add, Scrap, Down, Route, Release, Budget}
 use Rattle.plan_revise.specs.Promises.{no_promise}
 use Rattle.plan_revise.specs.Ended.{with_job_ended}
 use Rattle.plan_revise.specs.Placed.{with_new_job, with_new_machine, added}
 use Rattle.plan_revise.specs.Settings.{RevisionSetting, moves_made, HasLeftCell}
-use Rattle.plan_revise.specs.Aside.{aside_route, with_aside, HasRoom, put_aside}
+use Rattle.plan_revise.specs.Aside.{aside_route, with_aside, HasRoom, CanGoOn, put_aside}
 use Rattle.plan_revise.specs.Stopped.{present_step, way_to, stopped, stopped_at, without_machine}
-use Rattle.plan_revise.specs.Changes.{lasting, given_or, IsProlonged, IsScrapped, IsWithout, IsChangedTo}
+use Rattle.plan_revise.specs.Changes.{lasting, given_or, IsProlonged, IsScrapped, IsWithout, IsRerouted, IsChangedTo}
+use Rattle.plan_revise.specs.Dates.{coming_by, promised_by}
 use Rattle.plan_revise.specs.Fits.{IsFit, IsKept, IsRevision, IsSetting}
 use Rattle.plan_revise.specs.Parts.{Ends, Places}
 use Rattle.plan_revise.specs.Stages.{IsStage}
+use Rattle.plan_revise.specs.AnotherWay.{way_on, sent_outside, IsSentInside, AreFurthestBehind}
 use Rattle.plan_revise.proofs.Fitting.{shaped_fits}
 use Rattle.plan_revise.proofs.Ways.{way_visits}
 use Rattle.plan_revise.proofs.EndedParts.{ended-ends, ended-fit}
 use Rattle.plan_revise.proofs.PlacedParts.{default_more, placed-places, placed-fit, SameVisits, with_job-same, with_job-fit, with_machine-same, with_machine-fit, with_machine-clean, lasting-lasts, lasting-same, lasting-fit}
+use Rattle.plan_revise.proofs.DatesMoved.{coming-same, promised-same, coming-fit, promised-fit}
+use Rattle.plan_revise.proofs.SentOn.{wider-way, AreSentOn, all-sent}
 use Rattle.plan_revise.proofs.Keeping.{moves_given, given_kept, ends_keep, places_keep, same_keep}
 
 -- what is given is a revision of itself
@@ -34,8 +38,8 @@ given_revision s is = record {
   kept = given_kept s is;
   no_fewer = omega arith;
   plant = elim is.plant [
-    | inl aside ↦ inr (sym aside.last)
-    | inr whole ↦ inl (sym whole.0)
+    | inl whole ↦ inl (sym whole)
+    | inr aside ↦ inr (sym aside.last)
   ];
 }
 
@@ -159,7 +163,7 @@ stopped_outside s p j n outside = rw (eq-eqb (moves_made s j) 0 outside) refl
 pub stopped_inside : (s : RevisionSetting) (p : PlannedShop) (j n : ℕ) → moves_made s j ≢ 0 → stopped s p j n ≡ with_job_ended p j n
 stopped_inside s p j n moved = rw (ne_eqb (moves_made s j) 0 moved) refl
 
--- what stopping one job leaves
+-- what stopping one job, or sending it another way, leaves
 pub record IsOneStopped (s : RevisionSetting) (p : PlannedShop) (j : ℕ) (q : PlannedShop) : Type 0 where
   pub revision : IsRevision s q
   pub jobs_same : jobs q ≡ jobs p
@@ -281,12 +285,7 @@ module _ (s : RevisionSetting) (is : IsSetting s) where
     added_none = default_more p.shop.routes [] (jobs p) ∙ get_or_past p.shop.routes (jobs p) [] (omega arith)
 
     pub added_way : IsRoute (machines p) p.shop.recirculates r
-    added_way = record { visits_some = sound.visits_some; few_steps = sound.few_steps; steps = step }
-      where
-        step : (k : ℕ) → k < length r → IsSoundStep (machines p) p.shop.recirculates r k
-        step k less =
-            let one = sound.steps k less in
-            record { in_range = elim revision.plant [ inl same ↦ omega (arith, one.in_range) | inr more ↦ omega (arith, one.in_range) ]; elsewhere = one.elsewhere; first_visit = one.first_visit; nominal = one.nominal }
+    added_way = wider-way s p p.shop.recirculates r revision sound
 
     pub added_fit : IsFit (with_new_job p)
     added_fit = with_job-fit p revision.fit few
@@ -333,6 +332,103 @@ module _ (s : RevisionSetting) (is : IsSetting s) where
   pub without-revision : (p : PlannedShop) (m : ℕ) (q : PlannedShop) → IsRevision s p → IsWithout s p m q → IsRevision s q
   without-revision p m q revision made = subst (IsRevision s) (sym made.is) (stage_upto p m (jobs p) revision (omega arith) made.room).revision
 
+  -- a plan with the same visits, jobs, machines and cleaning times
+  same-revision : (p q : PlannedShop) → IsRevision s p → SameVisits p q → IsFit q → jobs q ≡ jobs p → machines q ≡ machines p → ((m : ℕ) → clean q m ≡ clean p m) → IsRevision s q
+  same-revision p q revision same fit jobs_same machines_same cleans = record {
+    fit = fit;
+    some_step = λ i there. omega (arith, same.lengths i, revision.some_step i (omega (arith, jobs_same)));
+    kept = same_keep s p q revision.kept same (omega (arith, jobs_same)) cleans;
+    no_fewer = omega (arith, revision.no_fewer, machines_same);
+    plant = elim revision.plant [ inl whole ↦ inl (machines_same ∙ whole) | inr more ↦ inr (machines_same ∙ more) ];
+  }
+
+  -- ---- a job that goes another way
+
+  -- outside
+  module _ (p : PlannedShop) (j : ℕ) (way : List Step) (revision : IsRevision s p) (inside : j < jobs p) (outside : moves_made s j ≡ 0) (sound : IsRoute s.plant p.shop.recirculates (way_on s p j way)) where
+    sent_ends : Ends p j 0 (with_job_ended p j 0)
+    sent_ends = ended-ends p j 0 revision.fit inside
+
+    pub sent_fit : IsFit (with_job_ended p j 0)
+    sent_fit = ended-fit p j revision.fit inside 0
+
+    sent_inside : j < jobs (with_job_ended p j 0)
+    sent_inside = omega (arith, sent_ends.jobs_same)
+
+    sent_way : IsRoute (machines p) p.shop.recirculates way
+    sent_way = wider-way s p p.shop.recirculates way revision (subst (λ n. IsRoute s.plant p.shop.recirculates (take n (route p j) ++ way)) outside sound)
+
+    pub sent_places : Places (with_job_ended p j 0) j way (release p j) (budget p j) (sent_outside p j way)
+    sent_places = placed-places (with_job_ended p j 0) j way (release p j) (budget p j) sent_fit sent_inside sent_ends.mine sent_way
+
+    sent_jobs : jobs (sent_outside p j way) ≡ jobs p
+    sent_jobs = length-set (with_job_ended p j 0).shop.routes j way ∙ sent_ends.jobs_same
+
+    sent_others : (i : ℕ) → i ≢ j → route (sent_outside p j way) i ≡ route p i
+    sent_others i other = sent_places.others i other ∙ sent_ends.others i other
+
+    not_begun : j < jobs s.given → made s.cell j ≡ 0
+    not_begun given = sym (moves_given s j given) ∙ outside
+
+    sent-revision : IsRevision s (sent_outside p j way)
+    sent-revision = record {
+      fit = placed-fit (with_job_ended p j 0) j way (release p j) (budget p j) sent_fit sent_inside sent_ends.mine sent_way (revision.fit.limits.releases j inside) (revision.fit.limits.budgets j inside);
+      some_step = λ i within. elim (cases_eq i j) [
+        | inl same ↦ omega (arith, ap (steps (sent_outside p j way)) same, ap length sent_places.route_is, sent_way.visits_some)
+        | inr other ↦ omega (arith, ap length (sent_others i other), revision.some_step i (omega (arith, sent_jobs)))
+      ];
+      kept = places_keep s (with_job_ended p j 0) j way (release p j) (budget p j) (sent_outside p j way)
+          (ends_keep s p j 0 is revision.fit inside revision.kept (λ given. omega (arith, not_begun given)) (λ given gone. omega (arith, not_begun given)))
+          sent_places (omega (arith, sent_jobs, sent_ends.jobs_same)) not_begun;
+      no_fewer = revision.no_fewer;
+      plant = revision.plant;
+    }
+
+  -- in the cell
+  module _ (p : PlannedShop) (j : ℕ) (way : List Step) (q : PlannedShop) (revision : IsRevision s p) (can : CanGoOn s p j) (moved : 0 < moves_made s j) (sound : IsRoute s.plant p.shop.recirculates (way_on s p j way)) where
+    pub cut_ends : Ends p j (moves_made s j) (with_job_ended p j (moves_made s j))
+    cut_ends = ended-ends p j (moves_made s j) revision.fit can.in_shop
+
+    pub cut_few : moves_made s j ≤ steps (with_job_ended p j (moves_made s j)) j
+    cut_few = elim (cases_lt (steps p j) (moves_made s j)) [
+      | inl gone ↦ absurd (can.here gone)
+      | inr few ↦ omega (arith, few, ap length cut_ends.mine, length-take (moves_made s j) (route p j))
+    ]
+
+    pub cut-revision : IsRevision s (with_job_ended p j (moves_made s j))
+    cut-revision = subst (IsRevision s) (stopped_inside s p j (moves_made s j) (λ none. omega arith))
+        (stopped-one s p j (moves_made s j) is revision can.in_shop can.here (omega arith) (λ none. absurd (omega arith))).revision
+
+    pub cut_way : IsRoute s.plant p.shop.recirculates (route (with_job_ended p j (moves_made s j)) j ++ way)
+    cut_way = subst (λ (r : List Step). IsRoute s.plant p.shop.recirculates (r ++ way)) (sym cut_ends.mine) sound
+
+    sent_on : (r : PlannedShop) → AreFurthestBehind s (with_job_ended p j (moves_made s j)) j way r → AreSentOn s (with_job_ended p j (moves_made s j)) j way r
+    sent_on r made = all-sent s j (with_job_ended p j (moves_made s j)) way r cut-revision (omega (arith, can.in_shop, cut_ends.jobs_same)) cut_few cut_way made
+
+    inside-one : IsSentInside s p j way q → IsOneStopped s p j q
+    inside-one one = subst (IsOneStopped s p j) (sym one.is) (record {
+      revision = same-revision one.sent (promised_by one.sent j (budget p j)) on.revision (promised-same one.sent j (budget p j))
+          (promised-fit one.sent j (budget p j) on.revision.fit (omega (arith, can.in_shop, cut_ends.jobs_same, on.jobs_same)) (revision.fit.limits.budgets j can.in_shop)) refl refl (λ m. refl);
+      jobs_same = on.jobs_same ∙ cut_ends.jobs_same;
+      others = λ i other. on.others i other ∙ cut_ends.others i other;
+      more_machines = on.more_machines;
+    })
+      where
+        on : AreSentOn s (with_job_ended p j (moves_made s j)) j way one.sent
+        on = sent_on one.sent one.behind
+
+  pub rerouted-one : (p : PlannedShop) (j : ℕ) (words : List ℕ) (q : PlannedShop) → IsRevision s p → IsRerouted s p j words q → IsOneStopped s p j q
+  rerouted-one p j words q revision made = elim (cases_lt 0 (moves_made s j)) [
+    | inl moved ↦ inside-one p j made.steps q revision made.can moved made.sound (made.inside moved)
+    | inr few ↦ (let outside : moves_made s j ≡ 0 = omega arith in
+        subst (IsOneStopped s p j) (sym (made.outside outside)) (record {
+          revision = sent-revision p j made.steps revision made.can.in_shop outside made.sound;
+          jobs_same = sent_jobs p j made.steps revision made.can.in_shop outside made.sound;
+          others = sent_others p j made.steps revision made.can.in_shop outside made.sound;
+          more_machines = omega arith;
+        }))
+  ]
+
   -- each change keeps all this
   pub becomes-revision : (p : PlannedShop) (change : Change) (q : PlannedShop) → IsRevision s p → IsChangedTo s p change q → IsRevision s q
   becomes-revision p (Until machine to) q revision made = prolonged-revision p machine to q revision made
@@ -340,3 +436,6 @@ module _ (s : RevisionSetting) (is : IsSetting s) where
       subst (IsRevision s) (sym made.is) (added-revision p made.steps (given_or release s.present) (given_or budget no_promise) revision made.few_jobs made.sound made.release_in_range made.budget_in_range)
   becomes-revision p (Scrap j) q revision made = scrapped-revision p j q revision made
   becomes-revision p (Down machine) q revision made = without-revision p machine q revision made
+  becomes-revision p (Route j words) q revision made = (rerouted-one p j words.now q revision made).revision
+  becomes-revision p (Release j moment) q revision made = subst (IsRevision s) (sym made.is) (same-revision p (coming_by p j moment) revision (coming-same p j moment) (coming-fit p j moment revision.fit made.in_line.in_shop made.in_range) refl refl (λ m. refl))
+  becomes-revision p (Budget j moment) q revision made = subst (IsRevision s) (sym made.is) (same-revision p (promised_by p j moment) revision (promised-same p j moment) (promised-fit p j moment revision.fit made.in_line.in_shop made.in_range) refl refl (λ m. refl))

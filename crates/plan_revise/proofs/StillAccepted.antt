@@ -15,7 +15,7 @@ use Rattle.shop_base.proofs.Keeping.{run-sound}
 use Rattle.shop_base.proofs.Visits.{visits_job, visits_or_not}
 use Rattle.cell_tables.specs.KeptLaw.{AKeptRunIsOneOfTheOtherPlan}
 use Rattle.plan_revise.specs.declared.change.Change.{Change}
-use Rattle.plan_revise.specs.declared.change.Change.TheVariants.{Until, Add, Scrap, Down}
+use Rattle.plan_revise.specs.declared.change.Change.TheVariants.{Until, Add, Scrap, Down, Route, Release, Budget}
 use Rattle.plan_revise.specs.Ended.{with_job_ended}
 use Rattle.plan_revise.specs.Settings.{RevisionSetting, setting, moves_made}
 use Rattle.plan_revise.specs.Aside.{HasRoom, put_aside}
@@ -24,13 +24,14 @@ use Rattle.plan_revise.specs.Changes.{IsChangedTo}
 use Rattle.plan_revise.specs.Revised.{AreMade}
 use Rattle.plan_revise.specs.Fits.{IsRevision, IsSetting}
 use Rattle.plan_revise.specs.Stages.{IsStage}
-use Rattle.plan_revise.specs.RevisedLaw.{AreStops, RevisedRestsStayAccepted}
+use Rattle.plan_revise.specs.Effects.{AreAll, AsksNoMore}
+use Rattle.plan_revise.specs.RevisedLaw.{RevisedRestsStayAccepted}
 use Rattle.plan_revise.proofs.Ways.{way_visits}
 use Rattle.plan_revise.proofs.EndedParts.{ended-ends}
 use Rattle.plan_revise.proofs.RevisedLaws.{becomes-more_jobs}
 use Rattle.plan_revise.proofs.Revisions.{given_revision, has_aside, aside_ends, aside_places, aside_jobs, stopped_outside, stopped_inside, stage_upto, stage_room, becomes-revision}
 use Rattle.plan_revise.proofs.Outcomes.{run_stays, run_setting, run_revision, no_cycle, jobs_there, nobody_later, made-more_jobs}
-use Rattle.plan_revise.proofs.Lifted.{IsAsideSound, aside_still, ended_sound, first_stop, all_others, given_sound}
+use Rattle.plan_revise.proofs.Lifted.{IsAsideSound, aside_still, ended_sound, coming_sound, promised_more, promised_sound, all_spare, given_sound}
 use Rattle.plan_revise.proofs.Sooner.{moves_there}
 
 -- ---- what stopping jobs leaves of the jobs that are put aside, and of budgets
@@ -97,20 +98,26 @@ module _ (s : RevisionSetting) (is : IsSetting s) (c : Cell) (top : ℕ) (moved 
       (stopped_at_step (without_machine s p m n) m n (way_to s (without_machine s p m n) n m) refl stage.revision (omega (arith, stage.jobs_same))
       (λ k outside there. stage_room s is p m n (without_machine s p m n) k revision stage room outside there) (omega (arith, stage.jobs_same)))
 
-  becomes_step : (p : PlannedShop) (change : Change) (q : PlannedShop) → AreStops (change ∷ []) → IsRevision s p → IsChangedTo s p change q → jobs p ≤ top → IsStep s p q
+  becomes_step : (p : PlannedShop) (change : Change) (q : PlannedShop) → AsksNoMore p change → IsRevision s p → IsChangedTo s p change q → jobs p ≤ top → IsStep s p q
   becomes_step p (Until machine to) q stops revision made few = absurd stops
   becomes_step p (Add words release budget) q stops revision made few = absurd stops
   becomes_step p (Scrap j) q stops revision made few = subst (IsStep s p) (sym made.is) (stopped_step p j (moves_made s j) revision made.in_shop made.room few)
   becomes_step p (Down machine) q stops revision made few = subst (IsStep s p) (sym made.is) (without_step p machine (jobs p) revision (omega arith) made.room few)
+  becomes_step p (Route j words) q less revision made few = absurd less
+  becomes_step p (Release j moment) q early revision made few = subst (IsStep s p) (sym made.is) (record { jobs_same = refl; sound = coming_sound s is c top moved p j moment; rises = λ i inside. omega arith })
+  becomes_step p (Budget j moment) q late revision made few = subst (IsStep s p) (sym made.is) (record {
+    jobs_same = refl;
+    sound = promised_sound s is c top moved p j moment revision.fit made.in_line;
+    rises = λ i inside. promised_more s is c top moved p j moment revision.fit made.in_line.in_shop late i;
+  })
 
-  made_step : (p : PlannedShop) (changes : List Change) (q : PlannedShop) → AreStops changes → IsRevision s p → AreMade s p changes q → jobs q ≤ top → IsStep s p q
+  made_step : (p : PlannedShop) (changes : List Change) (q : PlannedShop) → AreAll AsksNoMore s p changes → IsRevision s p → AreMade s p changes q → jobs q ≤ top → IsStep s p q
   made_step p [] q stops revision made few = subst (IsStep s p) (sym made) (no_step s p)
-  made_step p (change ∷ changes) q stops revision (next, one, rest) few =
-      let parts = first_stop change changes stops in
+  made_step p (change ∷ changes) q (less, others) revision (next, one, rest) few =
       let after = becomes-revision s is p change next revision one in
       let more : jobs p ≤ jobs next = becomes-more_jobs s is p change next revision one in
       let most : jobs next ≤ jobs q = made-more_jobs s is next changes q after rest in
-      steps_join s p next q (becomes_step p change next parts.0 revision one (omega arith)) (made_step next changes q parts.1 after rest few)
+      steps_join s p next q (becomes_step p change next less revision one (omega arith)) (made_step next changes q (others next one) after rest few)
 
 -- ---- a job that is put aside is never late
 
@@ -143,27 +150,27 @@ aside_short s q c t shaped sound aside soon _ _ _ (onward nodes u v n d path arc
 -- ---- an accepted rest stays accepted
 
 pub still_accepted : AKeptRunIsOneOfTheOtherPlan → RevisedRestsStayAccepted
-still_accepted kept p q es t changes r stops soon accepted = record {
-  acyclic = λ (nodes, cycle). no_cycle p q es t changes r (λ others ring. accepted.acyclic (others, ring)) nodes cycle;
-  budgets = λ j there here nodes n path. within j there here nodes n path (visits_or_not q j 0 r.revised.plant);
+still_accepted kept p q es t plant changes r less soon accepted = record {
+  acyclic = λ (nodes, cycle). no_cycle p q es t plant changes r (λ others ring. accepted.acyclic (others, ring)) nodes cycle;
+  budgets = λ j there here nodes n path. within j there here nodes n path (visits_or_not q j 0 plant);
 }
   where
-    s_is : IsSetting (setting p (ends_in p es) t r.revised.plant)
-    s_is = run_setting p q es t changes r
+    s_is : IsSetting (setting p (ends_in p es) t plant)
+    s_is = run_setting p q es t plant changes r
 
-    step : IsStep (setting p (ends_in p es) t r.revised.plant) p q
-    step = made_step (setting p (ends_in p es) t r.revised.plant) s_is (ends_in q es) (jobs q) (moves_there kept p q es t changes r) p changes q stops (given_revision (setting p (ends_in p es) t r.revised.plant) s_is) r.revised.made (omega arith)
+    step : IsStep (setting p (ends_in p es) t plant) p q
+    step = made_step (setting p (ends_in p es) t plant) s_is (ends_in q es) (jobs q) (moves_there kept p q es t plant changes r) p changes q less (given_revision (setting p (ends_in p es) t plant) s_is) r.made (omega arith)
 
-    aside : IsAsideSound (setting p (ends_in p es) t r.revised.plant) q
-    aside = step.sound (given_sound (setting p (ends_in p es) t r.revised.plant) s_is (ends_in q es) (jobs q) (moves_there kept p q es t changes r))
+    aside : IsAsideSound (setting p (ends_in p es) t plant) q
+    aside = step.sound (given_sound (setting p (ends_in p es) t plant) s_is (ends_in q es) (jobs q) (moves_there kept p q es t plant changes r))
 
-    within : (j : ℕ) → j < jobs q → (IsGone q (ends_in q es) j → ⊥) → (nodes : List Node) (n : ℕ) → PathAhead q (ends_in q es) t nodes (leaving q j) n → Visits q j 0 r.revised.plant ⊎ (Visits q j 0 r.revised.plant → ⊥) → n ≤ budget q j
+    within : (j : ℕ) → j < jobs q → (IsGone q (ends_in q es) j → ⊥) → (nodes : List Node) (n : ℕ) → PathAhead q (ends_in q es) t nodes (leaving q j) n → Visits q j 0 plant ⊎ (Visits q j 0 plant → ⊥) → n ≤ budget q j
     within j there here nodes n path (inl visits) =
-        let stays = run_stays kept p q es t changes r in
-        omega (arith, aside.unpromised j 0 visits, aside_short (setting p (ends_in p es) t r.revised.plant) q (ends_in q es) t stays.0 (run-sound q es stays.0 stays.1) aside soon nodes (leaving q j) n path visits)
+        let stays = run_stays kept p q es t plant changes r in
+        omega (arith, aside.unpromised j 0 visits, aside_short (setting p (ends_in p es) t plant) q (ends_in q es) t stays.0 (run-sound q es stays.0 stays.1) aside soon nodes (leaving q j) n path visits)
     within j there here nodes n path (inr free) =
         let inside : j < jobs p = omega (arith, step.jobs_same) in
-        let l = (nobody_later kept p q es t changes r (all_others changes stops) r.revised.plant j r.revised.is_plant inside free).leaves nodes n path in
-        let same = ap (λ (x : JobState). x.made) (jobs_there kept p q es t changes r (all_others changes stops) j inside) in
-        let not_gone : IsGone p (ends_in p es) j → ⊥ = λ gone. here (omega (arith, same, (run_revision p q es t changes r).kept.left j inside gone)) in
+        let l = (nobody_later kept p q es t plant changes r j (all_spare (setting p (ends_in p es) t plant) j p changes less) inside free).leaves nodes n path in
+        let same = ap (λ (x : JobState). x.made) (jobs_there kept p q es t plant changes r j inside) in
+        let not_gone : IsGone p (ends_in p es) j → ⊥ = λ gone. here (omega (arith, same, (run_revision p q es t plant changes r).kept.left j inside gone)) in
         omega (arith, l.longer, accepted.budgets j inside not_gone l.nodes l.size l.path, step.rises j inside)

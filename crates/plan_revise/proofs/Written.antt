@@ -1,8 +1,9 @@
 -- What writes to the rows of a draft make of its plan.
-use Rattle.std.proofs.Common.{◌≡◌, ℕ, zero, suc, ◌+◌, ◌-◌, ◌<◌, ◌≤◌, List, [], ◌∷◌, length, take, drop, get_or, set, Vec, Global, None, Some, Result, Ok, Err, Bool, true, false, refl, sym, ap, ◌∙◌, subst, arith, add-one, drop-cons}
-use Rattle.std.specs.Prelude.{IfOk, OnOk, IfErr, IsTrue, ◌↔◌, slice_get}
+use Rattle.plan_revise.specs.AnotherWay.{with_visit_at}
+use Rattle.std.proofs.Common.{◌++◌, ◌≡◌, ℕ, zero, suc, ◌+◌, ◌-◌, ◌<◌, List, [], ◌∷◌, length, take, drop, get_or, set, Vec, Global, None, Some, Result, Ok, Err, Bool, true, false, refl, sym, ap, ◌∙◌, subst, arith, inl, inr, add-one, drop-cons}
+use Rattle.std.specs.Prelude.{insert, IfOk, IfErr, IsTrue, ◌↔◌, slice_get}
 use Rattle.std.proofs.lemmas.Bool.{lt-ltb}
-use Rattle.std.proofs.lemmas.List.{get_or-map, get_or_default, map-set, length-map}
+use Rattle.std.proofs.lemmas.List.{get_or-map, get_or_default, map-set, map-append, length-map}
 use Rattle.std.proofs.lemmas.Option.{same_Some}
 use Rattle.shop_base.specs.declared.job_state.JobState.{JobState}
 use Rattle.shop_base.specs.declared.shop.Step.{Step}
@@ -22,12 +23,11 @@ use Rattle.plan_revise.specs.Orders.{changed_at, removed, put_last}
 use Rattle.plan_revise.specs.Promises.{no_promise}
 use Rattle.plan_revise.specs.Ended.{with_job_ended}
 use Rattle.plan_revise.specs.Placed.{placed}
-use Rattle.plan_revise.specs.Aside.{IsAside, IsAsideJob, IsPlant, HasRoom}
-use Rattle.plan_revise.specs.Changes.{lasting, IsChangedTo, IsScrapped}
+use Rattle.plan_revise.specs.Aside.{IsAside, IsAsideJob, IsPlant, IsPlantOf}
+use Rattle.plan_revise.specs.Changes.{lasting, IsChangedTo}
 use Rattle.plan_revise.specs.Refusals.{IsRefusedChange}
-use Rattle.plan_revise.specs.Revised.{AreMade, IsRevised, IsReasonNotRevised}
+use Rattle.plan_revise.specs.Revised.{AreMade, IsRevised, IsReasonNotRevised, IsRevisedWithin, IsReasonNotRevisedWithin}
 use Rattle.plan_revise.specs.Settings.{RevisionSetting, setting, moves_made, OperationGoesOn}
-use Rattle.plan_revise.specs.Stopped.{stopped}
 use Rattle.plan_revise.specs.Fits.{IsSetting}
 use Rattle.plan_revise.specs.Answers.{UnlessMemory, ParsesFirst, refused_at}
 
@@ -47,6 +47,20 @@ row_read {X} rows i old within read = ap (λ (r : Vec X Global). r.items) read �
 pub length_lists : {X : Type 0} (rows : List (Vec X Global)) → length (lists_of rows) ≡ length rows
 length_lists {X} rows = length-map rows (λ (r : Vec X Global). r.items)
 
+-- one more row is copied
+take_next : {X : Type 0} (xs : List X) (n : ℕ) (d : X) → n < length xs → take (suc n) xs ≡ take n xs ++ get_or xs n d ∷ []
+take_next [] n d less = absurd (omega arith)
+take_next (x ∷ xs) zero d less = refl
+take_next {X} (x ∷ xs) (suc n) d less = ap (λ (ys : List X). x ∷ ys) (take_next xs n d (omega arith))
+
+pub copied_more : {X : Type 0} (rows copies : List (Vec X Global)) (i : ℕ) (row copy : Vec X Global) (new : List (Vec X Global)) → new ≡ copies ++ copy ∷ [] → copy.items ≡ row.items → row ≡ get_or rows i row → i < length rows → lists_of copies ≡ take i (lists_of rows) → lists_of new ≡ take (i + 1) (lists_of rows)
+copied_more {X} rows copies i row copy new pushed same read within so_far =
+    ap lists_of pushed ∙ map-append (λ (r : Vec X Global). r.items) copies (copy ∷ [])
+    ∙ ap (λ (xs : List (List X)). xs ++ copy.items ∷ []) so_far
+    ∙ ap (λ (xs : List X). take i (lists_of rows) ++ xs ∷ []) (same ∙ row_read rows i row within read)
+    ∙ sym (take_next (lists_of rows) i [] (omega (arith, within, length_lists rows)))
+    ∙ ap (λ n. take n (lists_of rows)) (sym (add-one i))
+
 -- the order at one more step is changed
 pub changed_step : (f : List ℕ → List ℕ) (steps : List Step) (rows : List (Vec ℕ Global)) (i m : ℕ) (old new : Vec ℕ Global) (total : List (List ℕ))
     → i < length steps → (step_at steps i).machine ≡ m → m < length rows → old ≡ get_or rows m old → new.items ≡ f old.items
@@ -65,6 +79,10 @@ pub draft_placed : (p : PlannedShop) (j : ℕ) (mine : List Step) (first last : 
     → record p { shop = record p.shop { routes = routes }; plan = record p.plan { release = set p.plan.release j first; budget = set p.plan.budget j last; order = orders } } ≡ placed p j mine first last
 draft_placed p j mine first last routes orders one other = rw (one, other) refl
 
+pub draft_visit : (p : PlannedShop) (j : ℕ) (step : Step) (a : ℕ) (routes : List (List Step)) (orders : List (List ℕ)) → routes ≡ set p.shop.routes j (route p j ++ step ∷ []) → orders ≡ set p.plan.order step.machine (insert (order p step.machine) a j)
+    → record p { shop = record p.shop { routes = routes }; plan = record p.plan { order = orders } } ≡ with_visit_at p j step a
+draft_visit p j step a routes orders one other = rw (one, other) refl
+
 pub draft_lasting : (p : PlannedShop) (j k time : ℕ) (routes : List (List Step)) → routes ≡ set p.shop.routes j (set (route p j) k (record { machine = machine_of p j k; nominal = time }))
     → record p { shop = record p.shop { routes = routes } } ≡ lasting p j k time
 draft_lasting p j k time routes one = rw one refl
@@ -82,12 +100,6 @@ reason_more One Other more (Err Memory) why = tt
 -- the step that goes on is the one that the job's last move began
 pub work_at : (s : RevisionSetting) (j k m : ℕ) → OperationGoesOn s j k m → moves_made s j - 1 ≡ k
 work_at s j k m work = rw (lt-ltb j (jobs s.given) (visits_job s.given j k m work.on.visits)) (let entered = work.on.entered in omega (arith, entered))
-
--- a job that is stopped where it is, is scrapped
-pub scrap_made : {X : Type 0} (s : RevisionSetting) (p q : PlannedShop) (j : ℕ) → j < jobs p → moves_made s j ≤ steps p j → (answer : Result X Refusal)
-    → OnOk answer (q ≡ stopped s p j (moves_made s j)) → OnOk answer (moves_made s j ≡ 0 → HasRoom s p) → OnOk answer (IsScrapped s p j q)
-scrap_made s p q j inside here (Ok x) is room = record { in_shop = inside; here = λ left. omega (arith, here, left); room = room; is = is }
-scrap_made s p q j inside here (Err refusal) is room = tt
 
 -- a job in an order is of the shop
 pub listed_job : (p : PlannedShop) (m a : ℕ) → IsWellShaped p → m < machines p → a < length (order p m) → job_at p m a < jobs p
@@ -141,28 +153,39 @@ first_reason_at s p changes n q change (Fault fault) there made refused = record
 first_reason_at s p changes n q change Memory there made refused = tt
 
 -- what is answered first of the changes that are given
-pub first_reason : (p : PlannedShop) (c : Cell) (t : ℕ) (changes : List Change) (plant : ℕ) (answer : NotRevised) → IsPlant p plant → ParsesFirst (setting p c t plant) p changes answer → IsReasonNotRevised p c t changes answer
-first_reason p c t changes plant (Refused n fault) is_plant first = record { plant = plant; is_plant = is_plant; first = first }
-first_reason p c t changes plant NoMemory is_plant first = tt
+first_reason : (p : PlannedShop) (c : Cell) (t plant : ℕ) (changes : List Change) (answer : NotRevised) → ParsesFirst (setting p c t plant) p changes answer → IsReasonNotRevisedWithin p c t plant changes answer
+first_reason p c t plant changes (Refused n fault) first = first
+first_reason p c t plant changes NoMemory first = tt
+
+-- by the machines of the plant
+reason_by_plant : (p : PlannedShop) (c : Cell) (t plant : ℕ) (changes : List Change) (answer : NotRevised) → IsPlant p plant → IsReasonNotRevisedWithin p c t plant changes answer → IsReasonNotRevised p c t changes answer
+reason_by_plant p c t plant changes (Refused n fault) is_plant first = record { plant = plant; is_plant = is_plant; first = first }
+reason_by_plant p c t plant changes NoMemory is_plant first = tt
+
+pub plant_is_of : (p : PlannedShop) (plant : ℕ) → IsPlant p plant → IsPlantOf p plant
+plant_is_of p plant (inl aside) = inr (record { last = aside.last; uncleaned = aside.uncleaned; visitors = aside.visitors })
+plant_is_of p plant (inr whole) = inl whole.0
+
+module _ (p : PlannedShop) (c : Cell) (t plant : ℕ) (changes : List Change) (is_plant : IsPlant p plant) where
+  pub revised_by_plant : (answer : Result PlannedShop NotRevised) → IfOk answer (IsRevisedWithin p c t plant changes) → IfOk answer (IsRevised p c t changes)
+  revised_by_plant (Ok q) made = record { plant = plant; is_plant = is_plant; made = made }
+  revised_by_plant (Err answer) made = tt
+
+  pub refused_by_plant : (answer : Result PlannedShop NotRevised) → IfErr answer (IsReasonNotRevisedWithin p c t plant changes) → IfErr answer (IsReasonNotRevised p c t changes)
+  refused_by_plant (Ok q) why = tt
+  refused_by_plant (Err answer) why = reason_by_plant p c t plant changes answer is_plant why
 
 -- ---- the whole
 
-module _ (run : RevisionSetting) (p : PlannedShop) (c : Cell) (t : ℕ) (changes : List Change) (draft : PlannedShop) (is : run ≡ setting p c t run.plant) (sound : IsSetting run) (same : draft ≡ p) where
-  plant_of : IsPlant p run.plant
-  plant_of = subst (λ (x : PlannedShop). IsPlant x run.plant) (ap (λ (s : RevisionSetting). s.given) is) sound.plant
-
-  pub revised_answer : (answer : Result PlannedShop NotRevised) → IfOk answer (AreMade run draft changes) → IfOk answer (IsRevised p c t changes)
-  revised_answer (Ok q) made = record {
-    plant = run.plant;
-    is_plant = plant_of;
-    made = subst (λ (x : PlannedShop). AreMade (setting p c t run.plant) x changes q) same (subst (λ (s : RevisionSetting). AreMade s draft changes q) is made);
-  }
+module _ (run : RevisionSetting) (p : PlannedShop) (c : Cell) (t plant : ℕ) (changes : List Change) (draft : PlannedShop) (is : run ≡ setting p c t plant) (same : draft ≡ p) where
+  pub revised_answer : (answer : Result PlannedShop NotRevised) → IfOk answer (AreMade run draft changes) → IfOk answer (IsRevisedWithin p c t plant changes)
+  revised_answer (Ok q) made = subst (λ (x : PlannedShop). AreMade (setting p c t plant) x changes q) same (subst (λ (s : RevisionSetting). AreMade s draft changes q) is made)
   revised_answer (Err answer) made = tt
 
-  pub refused_answer : (answer : Result PlannedShop NotRevised) → IfErr answer (ParsesFirst run draft changes) → IfErr answer (IsReasonNotRevised p c t changes)
+  pub refused_answer : (answer : Result PlannedShop NotRevised) → IfErr answer (ParsesFirst run draft changes) → IfErr answer (IsReasonNotRevisedWithin p c t plant changes)
   refused_answer (Ok q) why = tt
-  refused_answer (Err answer) why = first_reason p c t changes run.plant answer plant_of
-      (subst (λ (x : PlannedShop). ParsesFirst (setting p c t run.plant) x changes answer) same (subst (λ (s : RevisionSetting). ParsesFirst s draft changes answer) is why))
+  refused_answer (Err answer) why = first_reason p c t plant changes answer
+      (subst (λ (x : PlannedShop). ParsesFirst (setting p c t plant) x changes answer) same (subst (λ (s : RevisionSetting). ParsesFirst s draft changes answer) is why))
 
   pub draft_given : run.given ≡ draft
   draft_given = ap (λ (s : RevisionSetting). s.given) is ∙ sym same

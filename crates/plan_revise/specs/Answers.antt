@@ -1,11 +1,12 @@
 -- What the parts of a change answer.
-use Rattle.std.specs.Prelude.{◌≡◌, ℕ, ◌<◌, ◌≤◌, List, Option, MatchOption}
+use Rattle.plan_revise.specs.Fits.{IsRevision}
+use Rattle.std.specs.Prelude.{[], ◌∷◌, ◌++◌, ◌≡◌, ℕ, ◌<◌, ◌≤◌, List, Option, MatchOption, take, slice_get, slice_index, length, Some}
 use Rattle.shop_base.specs.declared.limits.TheConstants.{MAX_JOBS, MAX_RELEASE, MAX_MOMENT}
 use Rattle.shop_base.specs.declared.shop.Step.{Step}
 use Rattle.shop_base.specs.Shop.{IsRoute}
-use Rattle.shop_base.specs.Plan.{PlannedShop, jobs, Visits}
+use Rattle.shop_base.specs.Plan.{PlannedShop, jobs, machines, route, steps, order, Visits}
 use Rattle.plan_revise.specs.declared.change.ChangeFault.{ChangeFault}
-use Rattle.plan_revise.specs.declared.change.ChangeFault.TheVariants.{TooManyMachines}
+use Rattle.plan_revise.specs.declared.change.ChangeFault.TheVariants.{TooManyMachines, Locks}
 use Rattle.plan_revise.specs.declared.change.Refusal.{Refusal}
 use Rattle.plan_revise.specs.declared.change.Refusal.TheVariants.{Fault, Memory}
 use Rattle.plan_revise.specs.declared.change.Change.{Change}
@@ -14,6 +15,7 @@ use Rattle.plan_revise.specs.declared.change.NotRevised.TheVariants.{Refused, Me
 use Rattle.plan_revise.specs.Revised.{IsFirstRefused}
 use Rattle.plan_revise.specs.Settings.{RevisionSetting, moves_made, OperationGoesOn}
 use Rattle.plan_revise.specs.Aside.{HasRoom}
+use Rattle.plan_revise.specs.AnotherWay.{LocksEverywhere, AreFurthestBehind}
 
 -- the fault that is answered, unless memory ran out, is one of these
 abbrev pub UnlessMemory : (ChangeFault → Type 0) → Refusal → Type 0
@@ -27,6 +29,40 @@ IsNoRoom s p j fault = (fault ≡ TooManyMachines) × (moves_made s j ≡ 0) × 
 -- job j is outside and has machine m ahead, and there is no room for a machine more
 abbrev pub IsNoRoomFor : RevisionSetting → PlannedShop → ℕ → ℕ → ChangeFault → Type 0
 IsNoRoomFor s p j m fault = IsNoRoom s p j fault × (k : ℕ) × Visits p j k m
+
+-- job j can make this step behind its others
+pub record IsSendable (s : RevisionSetting) (p : PlannedShop) (j : ℕ) (step : Step) : Type 0 where
+  pub revision : IsRevision s p
+  pub inside : j < jobs p
+  pub here : moves_made s j ≤ steps p j
+  pub sound : IsRoute s.plant p.shop.recirculates (route p j ++ step ∷ [])
+
+-- there is such a job, and such a place in the order of the step's machine
+pub record HasPlace (p : PlannedShop) (j : ℕ) (step : Step) (a : ℕ) : Type 0 where
+  pub inside : j < jobs p
+  pub in_shop : step.machine < machines p
+  pub rows : length p.plan.order ≡ machines p
+  pub within : a ≤ length (order p step.machine)
+
+-- wherever the step goes, there is a cycle
+abbrev pub IsLock : RevisionSetting → PlannedShop → ℕ → Step → ChangeFault → Type 0
+IsLock s p j step fault = (fault ≡ Locks) × LocksEverywhere s p j step
+
+-- the first of these steps that can't be placed locks wherever it goes
+pub record IsLockAmong (s : RevisionSetting) (p : PlannedShop) (j : ℕ) (steps : List Step) (fault : ChangeFault) : Type 0 where
+  pub is : fault ≡ Locks
+  pub count : ℕ
+  pub reached : PlannedShop
+  pub before : AreFurthestBehind s p j (take count steps) reached
+  pub step : Step
+  pub there : slice_get steps count ≡ Some step
+  pub locks : LocksEverywhere s reached j step
+
+-- this is the first place of an order that is behind so many entries and behind all places of job j
+pub record IsFirstBehind (order : List ℕ) (j entered place : ℕ) : Type 0 where
+  pub behind_entries : entered ≤ place
+  pub behind_own : (b : ℕ) → b < length order → slice_index order b ≡ j → b < place
+  pub first : (a : ℕ) → entered ≤ a → ((b : ℕ) → b < length order → slice_index order b ≡ j → b < a) → place ≤ a
 
 -- this is the job whose operation goes on on machine m
 abbrev pub IsWorker : RevisionSetting → ℕ → Option ℕ → Type 0

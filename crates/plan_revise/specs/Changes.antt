@@ -7,11 +7,13 @@ use Rattle.shop_base.specs.Plan.{PlannedShop, jobs, route, machine_of, Visits}
 use Rattle.shop_base.specs.Cell.{since}
 use Rattle.orlib_read.specs.Kinds.{first_line, IsJobLine}
 use Rattle.plan_revise.specs.declared.change.Change.{Change}
-use Rattle.plan_revise.specs.declared.change.Change.TheVariants.{Until, Add, Scrap, Down}
+use Rattle.plan_revise.specs.declared.change.Change.TheVariants.{Until, Add, Scrap, Down, Route, Release, Budget}
 use Rattle.plan_revise.specs.Promises.{no_promise}
 use Rattle.plan_revise.specs.Placed.{added}
-use Rattle.plan_revise.specs.Settings.{RevisionSetting, moves_made, HasLeftCell, OperationGoesOn}
-use Rattle.plan_revise.specs.Aside.{HasRoom}
+use Rattle.plan_revise.specs.Dates.{coming_by, promised_by}
+use Rattle.plan_revise.specs.AnotherWay.{way_on, sent_outside, IsSentInside}
+use Rattle.plan_revise.specs.Settings.{RevisionSetting, moves_made, HasLeftCell, HasArrived, OperationGoesOn}
+use Rattle.plan_revise.specs.Aside.{IsInLine, CanGoOn, HasRoom}
 use Rattle.plan_revise.specs.Stopped.{stopped, without_machine}
 
 -- what is given, or else this
@@ -59,9 +61,34 @@ module _ (s : RevisionSetting) (p : PlannedShop) where
     pub room : (j k : ℕ) → moves_made s j ≡ 0 → Visits p j k machine → HasRoom s p
     pub is : q ≡ without_machine s p machine (jobs p)
 
+  -- job j, which hasn't left and isn't on the machine behind those of the plant, goes another way from here, over machines of the plant
+  pub record IsRerouted (j : ℕ) (words : List ℕ) (q : PlannedShop) : Type 0 where
+    pub can : CanGoOn s p j
+    pub steps : List Step
+    pub written : IsJobLine (first_line words) steps
+    pub sound : IsRoute s.plant p.shop.recirculates (way_on s p j steps)
+    pub outside : moves_made s j ≡ 0 → q ≡ sent_outside p j steps
+    pub inside : 0 < moves_made s j → IsSentInside s p j steps q
+
+  -- job j, which hasn't come and isn't put aside, is due at another moment
+  pub record IsReleaseMoved (j moment : ℕ) (q : PlannedShop) : Type 0 where
+    pub in_line : IsInLine s p j
+    pub awaited : HasArrived s j → ⊥
+    pub in_range : moment ≤ MAX_RELEASE
+    pub is : q ≡ coming_by p j moment
+
+  -- job j, which hasn't left and isn't put aside, has another promise
+  pub record IsPromiseMoved (j moment : ℕ) (q : PlannedShop) : Type 0 where
+    pub in_line : IsInLine s p j
+    pub in_range : moment ≤ MAX_MOMENT
+    pub is : q ≡ promised_by p j moment
+
   -- what the change makes of the shop and its plan
   abbrev pub IsChangedTo : Change → PlannedShop → Type 0
   IsChangedTo (Until machine to) q = IsProlonged machine to q
   IsChangedTo (Add words release budget) q = IsAdded words.now release budget q
   IsChangedTo (Scrap j) q = IsScrapped j q
   IsChangedTo (Down machine) q = IsWithout machine q
+  IsChangedTo (Route j words) q = IsRerouted j words.now q
+  IsChangedTo (Release j moment) q = IsReleaseMoved j moment q
+  IsChangedTo (Budget j moment) q = IsPromiseMoved j moment q

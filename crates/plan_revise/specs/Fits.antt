@@ -6,7 +6,7 @@ use Rattle.shop_base.specs.Plan.{PlannedShop, jobs, machines, route, steps, mach
 use Rattle.shop_base.specs.Cell.{made, entries, IsGone}
 use Rattle.shop_base.specs.Move.{IsPrefix}
 use Rattle.shop_base.specs.Sound.{IsSound}
-use Rattle.plan_revise.specs.Aside.{IsPlant}
+use Rattle.plan_revise.specs.Aside.{IsPlantOf}
 use Rattle.plan_revise.specs.Settings.{RevisionSetting}
 
 -- all that makes a plan well shaped, but that each route has a step
@@ -39,4 +39,4 @@ pub record IsSetting (s : RevisionSetting) : Type 0 where
   pub shaped : IsWellShaped s.given
   pub sound : IsSound s.given s.cell
   pub present : s.cell.last ≤ s.present
-  pub plant : IsPlant s.given s.plant
+  pub plant : IsPlantOf s.given s.plant

@@ -6,11 +6,14 @@ pub mod Placed
 pub mod Settings
 pub mod Aside
 pub mod Stopped
+pub mod Dates
+pub mod AnotherWay
 pub mod Routes
 pub mod Changes
 pub mod Refusals
 pub mod Revised
 pub mod Names
+pub mod Effects
 pub mod Paths
 pub mod RevisedLaw
 -- Of proofs and private contracts alone.

@@ -1,7 +1,7 @@
 -- The names of faults.
 use Rattle.std.specs.Prelude.{ℕ, List, codes}
 use Rattle.plan_revise.specs.declared.change.ChangeFault.{ChangeFault}
-use Rattle.plan_revise.specs.declared.change.ChangeFault.TheVariants.{MachineOutOfRange, Idle, TooSoon, NominalTooLarge, OddWords, BadNumber, TooManyJobs, EmptyRoute, TooManySteps, MachineTwice, ReleaseTooLarge, BudgetTooLarge, JobOutOfRange, JobGone, TooManyMachines}
+use Rattle.plan_revise.specs.declared.change.ChangeFault.TheVariants.{MachineOutOfRange, Idle, TooSoon, NominalTooLarge, OddWords, BadNumber, TooManyJobs, EmptyRoute, TooManySteps, MachineTwice, ReleaseTooLarge, BudgetTooLarge, JobOutOfRange, JobGone, JobAside, JobArrived, TooManyMachines, Locks}
 
 -- the name of a fault
 abbrev pub change_fault_name : ChangeFault → List ℕ
@@ -19,4 +19,7 @@ change_fault_name ReleaseTooLarge = codes "ReleaseTooLarge"
 change_fault_name BudgetTooLarge = codes "BudgetTooLarge"
 change_fault_name JobOutOfRange = codes "JobOutOfRange"
 change_fault_name JobGone = codes "JobGone"
+change_fault_name JobAside = codes "JobAside"
+change_fault_name JobArrived = codes "JobArrived"
 change_fault_name TooManyMachines = codes "TooManyMachines"
+change_fault_name Locks = codes "Locks"

@@ -24,18 +24,32 @@ pub record IsFirstRefused (s : RevisionSetting) (p : PlannedShop) (changes : Lis
   pub there : slice_get changes n ≡ Some change
   pub refused : IsRefusedChange s reached change fault
 
+module _ (p : PlannedShop) (c : Cell) (t : ℕ) where
+  -- all changes are made, by the run so far, the present moment and so many machines of the plant
+  abbrev pub IsRevisedWithin : ℕ → List Change → PlannedShop → Type 0
+  IsRevisedWithin plant changes q = AreMade (setting p c t plant) p changes q
+
+  -- one of them can't be
+  abbrev pub IsRefusedWithin : ℕ → List Change → ℕ → ChangeFault → Type 0
+  IsRefusedWithin plant changes n fault = IsFirstRefused (setting p c t plant) p changes n fault
+
+  -- the answer says which, unless memory ran out
+  abbrev pub IsReasonNotRevisedWithin : ℕ → List Change → NotRevised → Type 0
+  IsReasonNotRevisedWithin plant changes (Refused n fault) = IsRefusedWithin plant changes n fault
+  IsReasonNotRevisedWithin plant changes Memory = Unit {0}
+
 module _ (p : PlannedShop) (c : Cell) (t : ℕ) (changes : List Change) where
-  -- all changes are made, by the run so far, the present moment and the machines of the plant
+  -- all changes are made, by the machines of the plant
   pub record IsRevised (q : PlannedShop) : Type 0 where
     pub plant : ℕ
     pub is_plant : IsPlant p plant
-    pub made : AreMade (setting p c t plant) p changes q
+    pub made : IsRevisedWithin p c t plant changes q
 
   -- one of them can't be
   pub record IsRefusedAt (n : ℕ) (fault : ChangeFault) : Type 0 where
     pub plant : ℕ
     pub is_plant : IsPlant p plant
-    pub first : IsFirstRefused (setting p c t plant) p changes n fault
+    pub first : IsRefusedWithin p c t plant changes n fault
 
   -- the answer says which, unless memory ran out
   abbrev pub IsReasonNotRevised : NotRevised → Type 0

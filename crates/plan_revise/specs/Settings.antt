@@ -1,5 +1,5 @@
 -- What changes are judged by: the run so far, the present moment, and the machines of the plant.
-use Rattle.std.specs.Prelude.{◌≡◌, ℕ, ◌<◌, nat_lt, if◌then◌else◌, false}
+use Rattle.std.specs.Prelude.{◌≡◌, ℕ, ◌<◌, ◌⊎◌, nat_lt, if◌then◌else◌, false, true}
 use Rattle.shop_base.specs.Plan.{PlannedShop, jobs, steps}
 use Rattle.shop_base.specs.Cell.{Cell, made, ready, IsOn}
 
@@ -22,6 +22,10 @@ module _ (s : RevisionSetting) where
   -- job j has left the cell
   abbrev pub HasLeftCell : PlannedShop → ℕ → Type 0
   HasLeftCell p j = steps p j < moves_made j
+
+  -- job j has come: its arrival was reported, or it has moved
+  abbrev pub HasArrived : ℕ → Type 0
+  HasArrived j = (j < jobs s.given) × ((0 < made s.cell j) ⊎ (ready s.cell j ≡ true))
 
   -- the operation of job j's step k goes on on machine m
   pub record OperationGoesOn (j k m : ℕ) : Type 0 where

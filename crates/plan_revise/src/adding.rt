@@ -85,7 +85,7 @@ impl Draft {
 }
 
 /// The steps that the words say.
-fn steps_of(alloc: Global, words: &[u8]) -> Result<Vec<Step>, Refusal>
+pub(crate) fn steps_of(alloc: Global, words: &[u8]) -> Result<Vec<Step>, Refusal>
     ensures steps { IfOk result (λ steps. IsJobLine (first_line words.now) steps.items) }
     ensures fault { IfErr result (UnlessMemory (IsJobLineFault words.now)) }
 {

@@ -8,7 +8,7 @@ use crate::ending::NO_PROMISE;
 use shop_base::{JobNo, MachineNo, Shaped};
 
 /// How many machines the plant has: all but that of the jobs that are put aside, where there is one.
-pub(crate) fn plant_machines(shaped: &Shaped) -> u32
+pub fn plant_of(shaped: &Shaped) -> u32
     ensures plant { IsPlant shaped.now result }
     ensures well_shaped { IsWellShaped shaped.now }
 {

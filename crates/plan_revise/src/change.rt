@@ -32,6 +32,22 @@ pub enum Change<'a> {
     Down {
         machine: MachineNo,
     },
+    /// Behind the steps that it has entered the job's route is this one, written as on a job's line of an instance. It goes
+    /// as far behind in each order as it can without a cycle. Outside that is last. Its release and its budget stay.
+    Route {
+        job: JobNo,
+        route: &'a [u8],
+    },
+    /// The job, which hasn't come, is due at this moment.
+    Release {
+        job: JobNo,
+        release: Moment,
+    },
+    /// The job's promise is this moment.
+    Budget {
+        job: JobNo,
+        budget: Moment,
+    },
 }
 
 /// Why a change can't be: the first reason, in the order in which those of its kind are answered.
@@ -67,10 +83,10 @@ pub enum ChangeFault {
     /// A machine is on the route twice; where a job may visit a machine again, in two steps in a row.
     #[error("MachineTwice")]
     MachineTwice,
-    /// The release of the new job is over the limit.
+    /// The release is over the limit.
     #[error("ReleaseTooLarge")]
     ReleaseTooLarge,
-    /// The budget of the new job is over the limit.
+    /// The budget is over the limit.
     #[error("BudgetTooLarge")]
     BudgetTooLarge,
     /// There is no such job.
@@ -79,9 +95,18 @@ pub enum ChangeFault {
     /// The job has left the cell.
     #[error("JobGone")]
     JobGone,
+    /// The job is put aside, or is on the machine of the jobs that are.
+    #[error("JobAside")]
+    JobAside,
+    /// The job has come.
+    #[error("JobArrived")]
+    JobArrived,
     /// A job would have to be put aside, and the shop has as many machines as it may have.
     #[error("TooManyMachines")]
     TooManyMachines,
+    /// Wherever the job goes in the order of the next machine on its way, there is a cycle.
+    #[error("Locks")]
+    Locks,
 }
 
 impl ChangeFault {
@@ -104,7 +129,10 @@ impl ChangeFault {
             ChangeFault::BudgetTooLarge => "BudgetTooLarge",
             ChangeFault::JobOutOfRange => "JobOutOfRange",
             ChangeFault::JobGone => "JobGone",
+            ChangeFault::JobAside => "JobAside",
+            ChangeFault::JobArrived => "JobArrived",
             ChangeFault::TooManyMachines => "TooManyMachines",
+            ChangeFault::Locks => "Locks",
         }
     }
 }

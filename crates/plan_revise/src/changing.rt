@@ -33,6 +33,9 @@ impl Draft {
             } => self.add(alloc, run, route, release, budget),
             Change::Scrap { job } => self.scrap(alloc, run, job),
             Change::Down { machine } => self.shut_down(alloc, run, machine),
+            Change::Route { job, route } => self.reroute(alloc, run, job, route),
+            Change::Release { job, release } => self.move_release(run, job, release),
+            Change::Budget { job, budget } => self.move_budget(run, job, budget),
         }
     }
 
@@ -65,14 +68,8 @@ impl Draft {
         ensures made { OnOk result (IsScrapped run.now self.old job self.new) }
         ensures refused { IfErr result (UnlessMemory (IsScrapFault run.now self.old job)) }
     {
-        if job as usize >= self.routes.len() {
-            return Err(Refusal::Fault(ChangeFault::JobOutOfRange));
-        }
-        let made = run.moves_made(job) as usize;
-        if made > self.routes[job as usize].len() {
-            return Err(Refusal::Fault(ChangeFault::JobGone));
-        }
-        self.stop(alloc, run, job, made)
+        self.check_there(run, job)?;
+        self.stop(alloc, run, job, run.moves_made(job) as usize)
     }
 
     /// Lets all jobs do without the machine.

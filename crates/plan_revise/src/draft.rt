@@ -45,7 +45,22 @@ impl Draft {
             release: plan.release.as_slice().to_vec(alloc)?,
             budget: plan.budget.as_slice().to_vec(alloc)?,
             order: copy_orders(alloc, shaped)?,
-            clean: copy_cleanings(alloc, plan)?,
+            clean: copy_times(alloc, &plan.clean)?,
+        })
+    }
+
+    /// A copy of it.
+    pub(crate) fn copy(&self, alloc: Global) -> Result<Draft, AllocError>
+        ensures { IfOk result (λ copy. copy ≡ self.now) }
+    {
+        Ok(Draft {
+            machines: self.machines,
+            recirculates: self.recirculates,
+            routes: copy_steps(alloc, &self.routes)?,
+            release: self.release.as_slice().to_vec(alloc)?,
+            budget: self.budget.as_slice().to_vec(alloc)?,
+            order: copy_jobs(alloc, &self.order)?,
+            clean: copy_times(alloc, &self.clean)?,
         })
     }
 
@@ -98,10 +113,30 @@ fn copy_orders(alloc: Global, shaped: &Shaped) -> Result<Vec<Vec<JobNo>>, AllocE
     Ok(orders)
 }
 
-fn copy_cleanings(alloc: Global, plan: &Plan) -> Result<Option<Vec<Moment>>, AllocError>
-    ensures { IfOk result (λ copy. list_of copy ≡ plan.now.clean) }
+fn copy_steps(alloc: Global, rows: &[Vec<Step>]) -> Result<Vec<Vec<Step>>, AllocError>
+    ensures { IfOk result (λ copy. lists_of copy.items ≡ lists_of rows.now) }
 {
-    match &plan.clean {
+    let mut copies = Vec::new(alloc);
+    for place in 0..rows.len() {
+        copies.push(rows[place].as_slice().to_vec(alloc)?)?;
+    }
+    Ok(copies)
+}
+
+fn copy_jobs(alloc: Global, rows: &[Vec<JobNo>]) -> Result<Vec<Vec<JobNo>>, AllocError>
+    ensures { IfOk result (λ copy. lists_of copy.items ≡ lists_of rows.now) }
+{
+    let mut copies = Vec::new(alloc);
+    for place in 0..rows.len() {
+        copies.push(rows[place].as_slice().to_vec(alloc)?)?;
+    }
+    Ok(copies)
+}
+
+fn copy_times(alloc: Global, times: &Option<Vec<Moment>>) -> Result<Option<Vec<Moment>>, AllocError>
+    ensures { IfOk result (λ copy. list_of copy ≡ list_of times.now) }
+{
+    match times {
         Some(times) => Ok(Some(times.as_slice().to_vec(alloc)?)),
         None => Ok(None),
     }

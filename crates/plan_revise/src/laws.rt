@@ -21,8 +21,8 @@ pub fn no_cycle_comes()
     ensures { NoCycleComes }
 {}
 
-/// Where no operation is said to last longer, no job that was there and isn't put aside is later for the changes: its
-/// earliest leaving is at most what it was, and so is each of its moves that both plans have.
+/// Where no operation is said to last longer, and no job to come later, no job that was there and isn't put aside is
+/// later for the changes: its earliest leaving is at most what it was, and so is each of its moves that both plans have.
 pub fn nobody_else_is_later()
     ensures { NobodyElseIsLater }
 {
@@ -37,14 +37,16 @@ pub fn no_part_comes_to_a_machine_that_is_down()
     a_kept_run_is_one_of_the_other_plan();
 }
 
-/// Where jobs are scrapped and machines are down alone, no deadline of a job that isn't put aside comes sooner.
+/// Where jobs are scrapped, machines are down, jobs come no later and promises are no sooner, no deadline of a job that
+/// isn't put aside comes sooner.
 pub fn no_deadline_comes_sooner()
     ensures { NoDeadlineComesSooner }
 {
     a_kept_run_is_one_of_the_other_plan();
 }
 
-/// Where jobs are scrapped and machines are down alone, a rest that is to be accepted stays so.
+/// Where jobs are scrapped, machines are down, jobs come no later and promises are no sooner, a rest that is to be
+/// accepted stays so.
 pub fn accepted_rests_stay_accepted()
     ensures { RevisedRestsStayAccepted }
 {

@@ -9,13 +9,17 @@ mod aside;
 mod change;
 mod changing;
 mod checking;
+mod dates;
 mod draft;
 mod ending;
 pub mod laws;
 mod orders;
+mod rerouting;
 mod revising;
 mod run_so_far;
 mod stopping;
+mod visiting;
 
+pub use aside::plant_of;
 pub use change::{Change, ChangeFault, NotRevised};
-pub use revising::revise;
+pub use revising::{revise, revise_within};

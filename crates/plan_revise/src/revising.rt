@@ -1,9 +1,11 @@
 //! Changes one after another.
 
 ghost use Rattle.std.specs.Prelude.{◌≡◌, ◌<◌, IfOk, OnOk, IfErr, length, slice_get, Some};
-ghost use Rattle.plan_revise.specs.{Revised.AreMade, Revised.IsRevised, Revised.IsReasonNotRevised, Fits.IsRevision};
+ghost use Rattle.plan_revise.specs.Revised.{AreMade, IsRevised, IsReasonNotRevised, IsRevisedWithin, IsReasonNotRevisedWithin};
+ghost use Rattle.plan_revise.specs.{Aside.IsPlantOf, Fits.IsRevision};
 ghost use Rattle.plan_revise.specs.Answers.{refused_at, ParsesFirst};
 
+use crate::aside::plant_of;
 use crate::change::{Change, NotRevised, Refusal};
 use crate::draft::Draft;
 use crate::run_so_far::RunSoFar;
@@ -15,7 +17,7 @@ use std::alloc::Global;
 /// stays as it is. With no change the answer is a copy of it.
 ///
 /// Whoever has changes of several kinds gives all [`Change::Until`] first, then all [`Change::Add`], all
-/// [`Change::Scrap`] and all [`Change::Down`].
+/// [`Change::Route`], all [`Change::Release`], all [`Change::Budget`], all [`Change::Scrap`] and all [`Change::Down`].
 pub fn revise<P: Planned>(
     alloc: Global,
     rest: &Rest<P>,
@@ -24,7 +26,23 @@ pub fn revise<P: Planned>(
     ensures revised { IfOk result (IsRevised rest.now.plan rest.now.cell rest.now.present changes.now) }
     ensures refused { IfErr result (IsReasonNotRevised rest.now.plan rest.now.cell rest.now.present changes.now) }
 {
-    let run = RunSoFar::of(rest);
+    revise_within(alloc, rest, plant_of(rest.shaped()), changes)
+}
+
+/// The same in a plant with so many machines. Where one more is in the shop, it is that of the jobs that are put aside, or
+/// is left from it, and nobody visits it any more.
+pub fn revise_within<P: Planned>(
+    alloc: Global,
+    rest: &Rest<P>,
+    plant: u32,
+    changes: &[Change],
+) -> Result<Shaped, NotRevised>
+    requires { IsPlantOf rest.now.plan plant }
+    ensures revised { IfOk result (IsRevisedWithin rest.now.plan rest.now.cell rest.now.present plant changes.now) }
+    ensures refused { IfErr result
+        (IsReasonNotRevisedWithin rest.now.plan rest.now.cell rest.now.present plant changes.now) }
+{
+    let run = RunSoFar::of(rest, plant);
     match Draft::of(alloc, rest.shaped()) {
         Ok(draft) => draft.revised_by(alloc, &run, changes),
         Err(error) => Err(NotRevised::from(error)),

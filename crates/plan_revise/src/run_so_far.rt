@@ -1,11 +1,10 @@
 //! What changes are judged by.
 
-ghost use Rattle.std.specs.Prelude.{◌≡◌, ◌<◌, ◌≤◌, IfSome};
+ghost use Rattle.std.specs.Prelude.{◌≡◌, ◌<◌, ◌≤◌, ◌↔◌, IsTrue, IfSome, length};
 ghost use Rattle.shop_base.specs.{declared.limits.TheConstants.MAX_MACHINES, Plan.jobs, Plan.machines};
-ghost use Rattle.shop_base.specs.Cell.{made, since};
-ghost use Rattle.plan_revise.specs.{Settings.setting, Settings.moves_made, Answers.IsWorker};
+ghost use Rattle.shop_base.specs.Cell.{made, since, entries};
+ghost use Rattle.plan_revise.specs.{Settings.setting, Settings.moves_made, Settings.HasArrived, Answers.IsWorker};
 
-use crate::aside::plant_machines;
 use cell_tables::Rest;
 use shop_base::{JobNo, MachineNo, Moment, Planned};
 use std::marker::Model;
@@ -29,17 +28,18 @@ impl<'a, P: Planned> Model for RunSoFar<'a, P> {
 }
 
 impl<'a, P: Planned> RunSoFar<'a, P> {
-    ghost use Rattle.plan_revise.specs.Aside.{IsPlant};
+    ghost use Rattle.plan_revise.specs.Aside.{IsPlantOf};
     ghost use Rattle.plan_revise.specs.Fits.{IsSetting};
 
-    /// The run so far, of which this is the rest.
-    pub(crate) fn of(rest: &'a Rest<P>) -> RunSoFar<'a, P>
-        ensures is { result ≡ setting rest.now.plan rest.now.cell rest.now.present result.plant }
+    /// The run so far, of which this is the rest, in a plant with so many machines.
+    pub(crate) fn of(rest: &'a Rest<P>, plant: u32) -> RunSoFar<'a, P>
+        requires { IsPlantOf rest.now.plan plant }
+        ensures is { result ≡ setting rest.now.plan rest.now.cell rest.now.present plant }
         ensures sound { IsSetting result }
     {
-        // Called for its clause alone: the moment isn't before the last one.
+        // Called for their clauses alone: the moment isn't before the last one, and the plan is well shaped.
         let _present = rest.present();
-        let plant = plant_machines(rest.shaped());
+        let _plan = rest.shaped();
         RunSoFar { rest, plant }
     }
 
@@ -72,6 +72,28 @@ impl<'a, P: Planned> RunSoFar<'a, P> {
         } else {
             0
         }
+    }
+
+    /// How many jobs have entered the machine.
+    pub(crate) fn entered(&self, machine: MachineNo) -> usize
+        requires { machine < self.now.plant }
+        ensures count { result ≡ length (entries self.now.cell machine) }
+        ensures sound { IsSetting self.now }
+    {
+        let _plan = self.rest.shaped();
+        self.rest.cell().entered(machine) as usize
+    }
+
+    /// Whether the job has come.
+    pub(crate) fn has_arrived(&self, job: JobNo) -> bool
+        ensures { IsTrue result ↔ HasArrived self.now job }
+    {
+        let cell = self.rest.cell();
+        if job >= cell.job_count() {
+            return false;
+        }
+        let state = cell.job_state(job);
+        state.made > 0 || state.ready
     }
 
     /// The job whose operation goes on on the machine.
