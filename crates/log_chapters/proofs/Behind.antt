@@ -5,7 +5,7 @@ use Rattle.text_lines.specs.Lines.{is_line_feed, parts_of}
 use Rattle.text_lines.specs.Cuts.{HasNone, IsCutAt}
 use Rattle.log_chapters.specs.Chapters.{line_behind, lines_behind}
 
-part_before : (front rest : List ℕ) → HasNone 10 front → parts_of is_line_feed (front ++ 10 ∷ rest) ≡ front ∷ parts_of is_line_feed rest
+pub part_before : (front rest : List ℕ) → HasNone 10 front → parts_of is_line_feed (front ++ 10 ∷ rest) ≡ front ∷ parts_of is_line_feed rest
 part_before [] rest none = refl
 part_before (b ∷ front) rest none = rw none.0 (ap (λ parts. onto_first b parts) (part_before front rest none.1))
 

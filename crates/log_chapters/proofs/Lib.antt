@@ -1,2 +1,7 @@
 pub mod Behind
 pub mod Numbers
+pub mod ChapterLines
+pub mod TakenOut
+pub mod Beginnings
+pub mod Recorded
+pub mod Prefixes

@@ -50,7 +50,11 @@ number_lines job [] = []
 number_lines job (origin ∷ origins) = number_line job origin ++ number_lines (job + 1) origins
 
 -- the line of no plan; behind it each line of the texts, the numbers, and the events; the last line is that of the plan
-abbrev pub chapter : Texts → List Origin → List Entry → RunDigits → List ℕ
-chapter texts origins entries digits =
+abbrev pub chapter_text : List ℕ → List ℕ → Option (List ℕ) → List Origin → List Entry → RunDigits → List ℕ
+chapter_text file plan names origins entries digits =
     plan_line no_digits
-    ++ (file_lines texts.file.now ++ (plan_text_lines texts.plan.now ++ (names_lines (option_copied texts.names) ++ (number_lines 0 origins ++ (entry_lines entries ++ plan_line digits)))))
+    ++ (file_lines file ++ (plan_text_lines plan ++ (names_lines names ++ (number_lines 0 origins ++ (entry_lines entries ++ plan_line digits)))))
+
+-- so of these texts
+abbrev pub chapter : Texts → List Origin → List Entry → RunDigits → List ℕ
+chapter texts origins entries digits = chapter_text texts.file.now texts.plan.now (option_copied texts.names) origins entries digits

@@ -17,7 +17,7 @@ mod writing_room;
 
 pub use file_fault::FileFault;
 pub use log_file::LogFile;
-pub use log_run::LogRun;
+pub use log_run::{LogRun, run_of};
 pub use logged::{FULL, InitialState, Logged, MAX_PENDING, UnknownHistory};
 pub use logs::Logs;
 pub use opening::{LogText, Unopened, cut_end, name_plan, new_log, open_log, read_log};

@@ -20,7 +20,7 @@ pub enum LogRun {
 }
 
 /// What these lines record of a run.
-pub(crate) fn run_of(lines: &[u8]) -> LogRun
+pub fn run_of(lines: &[u8]) -> LogRun
     ensures { IsLogRunOf (lines_of lines.now) result }
 {
     match last_plan(lines) {

@@ -11,3 +11,11 @@ pub mod Walks
 pub mod NothingMore
 pub mod RestSame
 pub mod Onward
+pub mod Alike
+pub mod Narrowed
+pub mod WithoutSpare
+pub mod AlikeAhead
+pub mod NarrowedOnward
+pub mod NarrowedRests
+pub mod NarrowedReports
+pub mod LeftWithoutSpare

@@ -7,3 +7,5 @@ pub mod PruningLaw
 pub mod RestLaw
 pub mod OnwardLaw
 pub mod Numbers
+pub mod Spare
+pub mod SpareLaw

@@ -1,7 +1,7 @@
 -- The laws of a run without jobs.
 use Rattle.std.specs.Prelude.{◌≡◌, ℕ, ◌<◌, ◌≤◌, List, Bool, true, length, Option, None, replicate}
 use Rattle.shop_base.specs.Plan.{PlannedShop, jobs, machines, IsWellShaped}
-use Rattle.shop_base.specs.Cell.{job_in, cleaning}
+use Rattle.shop_base.specs.Cell.{Cell, job_in, cleaning}
 use Rattle.shop_base.specs.Run.{Event, IsRun, ends_in}
 use Rattle.shop_base.specs.ReportsLeft.{reports_left}
 use Rattle.run_pruning.specs.Staying.{stays, new_number}
@@ -37,18 +37,26 @@ pub record IsRunOfThose (marks : List Bool) (p : PlannedShop) (es : List Event) 
 abbrev pub AnyJobsHaveTheirRun : Type 0
 AnyJobsHaveTheirRun = (p : PlannedShop) (es : List Event) (marks : List Bool) → IsWellShaped p → IsRun p es → IsChoice p marks → IsRunOfThose marks p es
 
--- what is left of a run without jobs that are over is a run too, of the planned shop without them: it ends in the cell without them, at the same moment
-pub record IsWhatIsLeft (marks : List Bool) (p : PlannedShop) (es : List Event) : Type 0 where
+-- what is left of a run of the jobs that stay is a run too, of planned shop q: it ends in a cell that is told by the one in which the run ended
+pub record IsLeftAs (cell : Cell → Cell) (marks : List Bool) (p : PlannedShop) (es : List Event) (q : PlannedShop) : Type 0 where
   pub choice : IsChoice p marks
-  pub shaped : IsWellShaped (pruned marks p)
-  pub run : IsRun (pruned marks p) (pruned_run marks p es)
-  pub ends : ends_in (pruned marks p) (pruned_run marks p es) ≡ pruned_cell marks (ends_in p es) (ends_in p es).last
+  pub shaped : IsWellShaped q
+  pub run : IsRun q (pruned_run marks p es)
+  pub ends : ends_in q (pruned_run marks p es) ≡ cell (ends_in p es)
   -- each job that stays is at its step, ready or not, since the same moment
-  pub jobs_same : (j : ℕ) → stays marks j ≡ true → job_in (ends_in (pruned marks p) (pruned_run marks p es)) (new_number marks j) ≡ job_in (ends_in p es) j
+  pub jobs_same : (j : ℕ) → stays marks j ≡ true → job_in (ends_in q (pruned_run marks p es)) (new_number marks j) ≡ job_in (ends_in p es) j
   -- each machine is being cleaned since the same moment, or isn't
-  pub cleaning_same : (m : ℕ) → cleaning (ends_in (pruned marks p) (pruned_run marks p es)) m ≡ cleaning (ends_in p es) m
+  pub cleaning_same : (m : ℕ) → cleaning (ends_in q (pruned_run marks p es)) m ≡ cleaning (ends_in p es) m
   -- and as many reports are left
-  pub reports_same : reports_left (pruned marks p) (ends_in (pruned marks p) (pruned_run marks p es)) ≡ reports_left p (ends_in p es)
+  pub reports_same : reports_left q (ends_in q (pruned_run marks p es)) ≡ reports_left p (ends_in p es)
+
+-- the cell without the jobs that don't stay, at the same moment
+abbrev pub left_cell : List Bool → Cell → Cell
+left_cell marks c = pruned_cell marks c c.last
+
+-- without jobs that are over it is a run of the planned shop without them, and ends in the cell without them, at the same moment
+abbrev pub IsWhatIsLeft : List Bool → PlannedShop → List Event → Type 0
+IsWhatIsLeft marks p es = IsLeftAs (left_cell marks) marks p es (pruned marks p)
 
 -- what is left is a run: whatever jobs that are over at the end of a run are dropped
 abbrev pub WhatIsLeftIsARun : Type 0

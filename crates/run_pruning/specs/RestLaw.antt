@@ -24,25 +24,32 @@ pub record IsNodeAhead (p : PlannedShop) (c : Cell) (v : Node) : Type 0 where
 abbrev pub IsHeldUntil : PlannedShop → Cell → Node → ℕ → Type 0
 IsHeldUntil p c v due = (a : Activity) × GoesOn p c a due × HoldsUp p c a v
 
--- what is ahead of cell d by plan q is what is ahead of cell c by plan p, by the new numbers of the jobs that stay
-pub record IsAheadRenamed (marks : List Bool) (p : PlannedShop) (c : Cell) (q : PlannedShop) (d : Cell) : Type 0 where
-  -- each node ahead is that of a job that stays
-  pub nodes : (v : Node) → IsNodeAhead p c v → (stays marks v.job ≡ true) × IsNodeAhead q d (new_node marks v)
-  pub nodes_back : (w : Node) → IsNodeAhead q d w → (v : Node) × (w ≡ new_node marks v) × IsNodeAhead p c v
+-- what is ahead of cell d by plan q is what is ahead of cell c by plan p, with each node renamed; it is all of jobs that are kept
+pub record IsAheadBy (kept : ℕ → Bool) (rename : Node → Node) (p : PlannedShop) (c : Cell) (q : PlannedShop) (d : Cell) : Type 0 where
+  -- each node ahead is that of a job that is kept
+  pub nodes : (v : Node) → IsNodeAhead p c v → (kept v.job ≡ true) × IsNodeAhead q d (rename v)
+  pub nodes_back : (w : Node) → IsNodeAhead q d w → (v : Node) × (w ≡ rename v) × IsNodeAhead p c v
   -- from it lead the same arcs
-  pub arcs : (u v : Node) (n : ℕ) → IsAhead c u → Arc p u v n → Arc q (new_node marks u) (new_node marks v) n
-  pub arcs_back : (x y : Node) (n : ℕ) → IsAhead d x → Arc q x y n → (u : Node) × (v : Node) × (x ≡ new_node marks u) × (y ≡ new_node marks v) × IsAhead c u × Arc p u v n
+  pub arcs : (u v : Node) (n : ℕ) → IsAhead c u → Arc p u v n → Arc q (rename u) (rename v) n
+  pub arcs_back : (x y : Node) (n : ℕ) → IsAhead d x → Arc q x y n → (u : Node) × (v : Node) × (x ≡ rename u) × (y ≡ rename v) × IsAhead c u × Arc p u v n
   -- and the same holds it up, due at the same moment
-  pub held : (v : Node) (due : ℕ) → IsHeldUntil p c v due → IsHeldUntil q d (new_node marks v) due
-  pub held_back : (w : Node) (due : ℕ) → IsHeldUntil q d w due → (v : Node) × (w ≡ new_node marks v) × IsHeldUntil p c v due
+  pub held : (v : Node) (due : ℕ) → IsHeldUntil p c v due → IsHeldUntil q d (rename v) due
+  pub held_back : (w : Node) (due : ℕ) → IsHeldUntil q d w due → (v : Node) × (w ≡ rename v) × IsHeldUntil p c v due
   -- its job leaves by the same budget
-  pub budgets : (v : Node) → IsNodeAhead p c v → budget q (new_number marks v.job) ≡ budget p v.job
+  pub budgets : (v : Node) → IsNodeAhead p c v → budget q (rename v).job ≡ budget p v.job
 
--- so the same paths are ahead from every moment on, and are as long
-pub record ArePathsRenamed (marks : List Bool) (p : PlannedShop) (c : Cell) (q : PlannedShop) (d : Cell) (t : ℕ) : Type 0 where
-  pub paths : (nodes : List Node) (v : Node) (n : ℕ) → PathAhead p c t nodes v n → PathAhead q d t (map (new_node marks) nodes) (new_node marks v) n
+-- the same paths are ahead from moment t on, with each node renamed, and are as long
+pub record ArePathsBy (rename : Node → Node) (p : PlannedShop) (c : Cell) (q : PlannedShop) (d : Cell) (t : ℕ) : Type 0 where
+  pub paths : (nodes : List Node) (v : Node) (n : ℕ) → PathAhead p c t nodes v n → PathAhead q d t (map rename nodes) (rename v) n
   pub paths_back : (others : List Node) (w : Node) (n : ℕ) → PathAhead q d t others w n
-      → (nodes : List Node) × (v : Node) × (others ≡ map (new_node marks) nodes) × (w ≡ new_node marks v) × PathAhead p c t nodes v n
+      → (nodes : List Node) × (v : Node) × (others ≡ map rename nodes) × (w ≡ rename v) × PathAhead p c t nodes v n
+
+-- both by the new numbers of the jobs that stay
+abbrev pub IsAheadRenamed : List Bool → PlannedShop → Cell → PlannedShop → Cell → Type 0
+IsAheadRenamed marks = IsAheadBy (stays marks) (new_node marks)
+
+abbrev pub ArePathsRenamed : List Bool → PlannedShop → Cell → PlannedShop → Cell → ℕ → Type 0
+ArePathsRenamed marks = ArePathsBy (new_node marks)
 
 -- nothing ahead changes: whatever jobs that are over are dropped, the nodes ahead are the same but for their numbers, with the same arcs, what holds them up is due at the same moments, and from every moment on the same paths lead to them
 abbrev pub NothingAheadChanges : Type 0

@@ -2,7 +2,7 @@
 
 ghost use Rattle.std.specs.Prelude.{◌≡◌, ◌+◌, ◌<◌, ◌≤◌, ◌++◌, ◌∷◌, [], length, OnOk, Some, None, cond, if◌then◌else◌};
 ghost use Rattle.shop_base.specs.declared.limits.TheConstants.{MAX_JOBS};
-ghost use Rattle.run_pruning.specs.Numbers.{number_if_kept};
+ghost use Rattle.run_pruning.specs.Numbers.{number_if_kept, number_behind};
 
 use shop_base::JobNo;
 use std::alloc::{AllocError, Global};
@@ -58,8 +58,20 @@ impl KeptJobs {
         }
     }
 
+    /// The new number of a job; one behind those that there were goes on from those that stay. `None` if it doesn't stay.
+    pub fn number_behind(&self, job: JobNo) -> Option<JobNo>
+        ensures { result ≡ number_behind self.now job }
+    {
+        let were = self.len();
+        if job < were {
+            self.number_of(job)
+        } else {
+            Some(job - were + self.count)
+        }
+    }
+
     /// How many jobs there were.
-    pub(crate) fn len(&self) -> u32
+    pub fn len(&self) -> u32
         ensures count { result ≡ length self.now }
         ensures few { result ≤ MAX_JOBS }
     {

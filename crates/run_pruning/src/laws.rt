@@ -4,6 +4,7 @@
 
 ghost use Rattle.run_pruning.specs.PruningLaw.{AnyJobsHaveTheirRun, WhatIsLeftIsARun, NothingMoreIsOver};
 ghost use Rattle.run_pruning.specs.{RestLaw.NothingAheadChanges, OnwardLaw.TheRunGoesOnRenamed};
+ghost use Rattle.run_pruning.specs.SpareLaw.{TheRunsAreTheSame, TheRestsAreTheSame, WhatIsLeftNeedsNoSpare, NothingIsOverWithoutSpare};
 
 /// Whatever jobs stay, at least one, the planned shop of them alone is well shaped, and their events are a run of it, which
 /// ends in the cell without the others. A job may visit a machine again.
@@ -33,4 +34,27 @@ pub fn nothing_ahead_changes()
 /// the other way round. So the cell is driven on as before.
 pub fn the_run_goes_on_renamed()
     ensures { TheRunGoesOnRenamed }
+{}
+
+/// Without the machine that nobody visits a planned shop is well shaped and has the same runs, which end in the same cells
+/// but for that machine.
+pub fn the_runs_are_the_same()
+    ensures { TheRunsAreTheSame }
+{}
+
+/// Behind each of these runs the same is ahead, with the same paths to it, and from every present moment on the same
+/// controlled runs go on.
+pub fn the_rests_are_the_same()
+    ensures { TheRestsAreTheSame }
+{}
+
+/// What is left of a run without jobs that are over needs no machine that nobody visits any more: without that too it is a
+/// run, and what is ahead and what goes on stay as they are.
+pub fn what_is_left_needs_no_spare()
+    ensures { WhatIsLeftNeedsNoSpare }
+{}
+
+/// Nor is any job over then, where all that were over are dropped.
+pub fn nothing_is_over_without_spare()
+    ensures { NothingIsOverWithoutSpare }
 {}

@@ -9,7 +9,9 @@ mod kept_jobs;
 pub mod laws;
 mod leavers;
 mod pruning;
+mod spare;
 mod what_is_left;
 
 pub use kept_jobs::KeptJobs;
+pub use spare::without_spare;
 pub use what_is_left::{LeftRun, left_run};

@@ -35,7 +35,12 @@ pub(crate) fn prune(alloc: Global, shaped: &Shaped, kept: &KeptJobs) -> Result<S
 }
 
 /// A shop and its plan, which is well shaped.
-fn planned(machines: u32, recirculates: bool, routes: Vec<Vec<Step>>, plan: Plan) -> Shaped
+pub(crate) fn planned(
+    machines: u32,
+    recirculates: bool,
+    routes: Vec<Vec<Step>>,
+    plan: Plan,
+) -> Shaped
     requires { IsWellShaped (record {
       shop = record { machines = machines; routes = lists_of routes.items; recirculates = recirculates };
       plan = plan;
@@ -80,7 +85,8 @@ fn kept_routes(
     Ok(left)
 }
 
-fn copy_route(alloc: Global, route: &[Step]) -> Result<Vec<Step>, AllocError>
+/// A route once more.
+pub(crate) fn copy_route(alloc: Global, route: &[Step]) -> Result<Vec<Step>, AllocError>
     ensures { IfOk result (λ copy. copy.items ≡ route.now) }
 {
     route.to_vec(alloc)
