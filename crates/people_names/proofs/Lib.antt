@@ -1,3 +1,4 @@
+pub mod KeptNames
 pub mod Known
 pub mod SeenNames
 pub mod Places

@@ -4,6 +4,8 @@ pub mod NameTexts
 pub mod Clocks
 pub mod NameBooks
 pub mod Words
+pub mod KeptNames
+pub mod NameLines
 pub mod Faults
 pub mod Reading
 pub mod Documents

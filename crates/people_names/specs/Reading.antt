@@ -1,5 +1,5 @@
 -- The names and the clock that stand in a TOML table.
-use Rattle.std.specs.Prelude.{ℕ, true, List, [], ◌∷◌, Option, None, Some}
+use Rattle.std.specs.Prelude.{ℕ, true, List, [], ◌∷◌, Option, None, Some, is_some}
 use Rattle.toml.specs.Data.{Data, string, array, Items, no_items, item, Members}
 use Rattle.people_names.specs.declared.clock.Clock.{Clock}
 use Rattle.people_names.specs.declared.keys.NamesKey.TheVariants.{Jobs, Machines}
@@ -34,4 +34,6 @@ names_in table = record {
   machines = names_at (value_at table Machines);
   clock = clock_in (begin_in table);
   people = true;
+  lists_jobs = is_some (value_at table Jobs);
+  lists_machines = is_some (value_at table Machines);
 }

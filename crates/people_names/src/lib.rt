@@ -7,6 +7,8 @@
 #![tactic(auto)]
 
 mod clock;
+mod document;
+mod kept;
 mod keys;
 pub mod laws;
 mod lists;

@@ -1,16 +1,19 @@
 ghost use Rattle.std.specs.Prelude.{◌≡◌, ◌+◌, ◌<◌, ◌≤◌, ◌++◌, map, length, slice_get};
-ghost use Rattle.std.specs.Prelude.{option_map, string_bytes, true, None};
+ghost use Rattle.std.specs.Prelude.{option_map, string_bytes, true, None, IfOk};
 ghost use Rattle.std.specs.List.{All};
-ghost use Rattle.people_names.specs.{NameBooks.no_names, Lists.AreShort};
+ghost use Rattle.people_names.specs.{NameBooks.no_names, Lists.AreShort, KeptNames.kept_names, NameLines.name_lines};
 ghost use Rattle.people_names.specs.Words.{word_of, job_word, visit_word, machine_word, two_digits, hour_and_minute};
 ghost use Rattle.people_names.specs.Words.{day_words, minute_words, second_words, moment_by, moment_word};
 ghost use Rattle.people_names.specs.Words.{is_budget_printed, is_deadline_printed};
 ghost use Rattle.people_names.specs.declared.names.TheConstants.{LONGEST_NAME, LONGEST_VISIT, LONGEST_MOMENT};
 
 use crate::clock::Clock;
+use crate::document::{push_clock, push_list};
+use crate::kept::{first_names, names_of_jobs};
+use crate::keys::NamesKey;
 use shop_base::limits::MAX_MOMENT;
 use shop_base::{JobNo, MachineNo, Moment};
-use std::alloc::Global;
+use std::alloc::{AllocError, Global};
 use std::marker::Model;
 use text_lines::LineText;
 
@@ -34,6 +37,8 @@ pub struct Names {
     machines: Vec<String>,
     clock: Option<Clock>,
     people: bool,
+    lists_jobs: bool,
+    lists_machines: bool,
 }
 
 impl Model for Names {
@@ -48,6 +53,8 @@ impl Model for Names {
       machines = map string_bytes names.machines.items;
       clock = names.clock;
       people = names.people;
+      lists_jobs = names.lists_jobs;
+      lists_machines = names.lists_machines;
     } };
 
     ghost invariant = { λ names.
@@ -64,7 +71,40 @@ impl Names {
             machines: Vec::new(alloc),
             clock: None,
             people: false,
+            lists_jobs: false,
+            lists_machines: false,
         }
+    }
+
+    /// The names where the jobs with these numbers, in ascending order, stay, and so many of the first machines. The
+    /// clock stays as it is.
+    pub fn kept(&self, alloc: Global, jobs: &[JobNo], machines: u32) -> Result<Names, AllocError>
+        ensures { IfOk result (λ kept. kept ≡ kept_names self.now jobs.now machines) }
+    {
+        Ok(Names {
+            jobs: names_of_jobs(alloc, &self.jobs, jobs)?,
+            machines: first_names(alloc, &self.machines, machines as usize)?,
+            clock: self.clock,
+            people: self.people,
+            lists_jobs: self.lists_jobs,
+            lists_machines: self.lists_machines,
+        })
+    }
+
+    /// A text of these names in TOML: a line for each key that there is.
+    pub fn text(&self, alloc: Global) -> Result<Vec<u8>, AllocError>
+        ensures { IfOk result (λ text. text.items ≡ name_lines self.now) }
+    {
+        let mut text = Vec::new(alloc);
+        push_list(&mut text, NamesKey::Jobs, self.lists_jobs, &self.jobs)?;
+        push_list(
+            &mut text,
+            NamesKey::Machines,
+            self.lists_machines,
+            &self.machines,
+        )?;
+        push_clock(&mut text, self.clock)?;
+        Ok(text)
     }
 
     /// The job's name, if it has one.
@@ -158,6 +198,8 @@ pub(crate) fn names_for_people(
     jobs: Vec<String>,
     machines: Vec<String>,
     clock: Option<Clock>,
+    lists_jobs: bool,
+    lists_machines: bool,
 ) -> Names
     requires jobs { AreShort (map string_bytes jobs.items) }
     requires machines { AreShort (map string_bytes machines.items) }
@@ -166,6 +208,8 @@ pub(crate) fn names_for_people(
       machines = map string_bytes machines.items;
       clock = clock;
       people = true;
+      lists_jobs = lists_jobs;
+      lists_machines = lists_machines;
     } }
 {
     Names {
@@ -173,11 +217,13 @@ pub(crate) fn names_for_people(
         machines,
         clock,
         people: true,
+        lists_jobs,
+        lists_machines,
     }
 }
 
 #[inline(always)]
-fn name_at(names: &[String], number: u32) -> Option<&str>
+pub(crate) fn name_at(names: &[String], number: u32) -> Option<&str>
     ensures { option_map (λ name. name.now) result ≡ slice_get (map string_bytes names.now) number }
 {
     match names.get(number as usize) {
@@ -202,7 +248,11 @@ fn put_word<const ROOM: usize>(line: &mut LineText<ROOM>, names: &[String], numb
 
 /// Writes the moment by the clock, if there is one.
 #[inline(always)]
-fn put_moment_by<const ROOM: usize>(line: &mut LineText<ROOM>, clock: Option<Clock>, moment: Moment)
+pub(crate) fn put_moment_by<const ROOM: usize>(
+    line: &mut LineText<ROOM>,
+    clock: Option<Clock>,
+    moment: Moment,
+)
     requires { LONGEST_MOMENT + length line.old ≤ ROOM }
     ensures written { line.new ≡ moment_by clock moment ++ line.old }
     ensures length { length line.new ≤ LONGEST_MOMENT + length line.old }

@@ -1,7 +1,7 @@
 //! The reader of names.
 
 ghost use Rattle.std.specs.Prelude.{◌≡◌, ◌≢◌, ◌≤◌, ◌++◌, nat_le, map, option_map};
-ghost use Rattle.std.specs.Prelude.{string_bytes, length, IfOk, IfErr, None, Some};
+ghost use Rattle.std.specs.Prelude.{string_bytes, length, is_some, IfOk, IfErr, None, Some};
 ghost use Rattle.toml.specs.{Data.get_member, View.view, View.table_view};
 ghost use Rattle.people_names.specs.{declared.names_fault.NamesFault.NamesFault, Keys.value_at, Keys.begin_in};
 ghost use Rattle.people_names.specs.declared.keys.NamesKey.{NamesKey};
@@ -24,6 +24,13 @@ fn value_of<'a>(table: &'a Table, key: &str) -> Option<&'a Value>
     ensures { option_map (λ v. view v.now) result ≡ get_member key.now (table_view table.now) }
 {
     table.get(key)
+}
+
+/// Whether the table has a key.
+fn has_list(table: &Table, key: NamesKey) -> bool
+    ensures { result ≡ is_some (value_at (table_view table.now) key) }
+{
+    value_of(table, key.name()).is_some()
 }
 
 /// The names of a key, where the table has it.
@@ -98,7 +105,13 @@ fn values_of(
     let of_jobs = names_at(alloc, table, NamesKey::Jobs)?;
     let of_machines = names_at(alloc, table, NamesKey::Machines)?;
     match check_rest(table, &of_jobs, &of_machines, jobs, machines) {
-        Ok(clock) => Ok(names_for_people(of_jobs, of_machines, clock)),
+        Ok(clock) => Ok(names_for_people(
+            of_jobs,
+            of_machines,
+            clock,
+            has_list(table, NamesKey::Jobs),
+            has_list(table, NamesKey::Machines),
+        )),
         Err(fault) => Err(fault),
     }
 }
