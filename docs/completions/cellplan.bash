@@ -7,7 +7,7 @@ _cellplan() {
     return
   fi
   case $before in
-    --instance | --at | --lines | --leap | --rounds | --seed | --job | --choices | --until | --add | --release | --budget | --scrap | --down) return ;;
+    --instance | --at | --lines | --leap | --rounds | --seed | --job | --choices | --until | --add | --release | --budget | --route | --scrap | --down) return ;;
   esac
   case $command in
     plan) options='--instance --rounds --help' ;;
@@ -21,7 +21,7 @@ _cellplan() {
     gantt) options='--instance --svg --names --help' ;;
     bounds | margin) options='--instance --names --help' ;;
     facts | shape | digest | audit) options='--instance --help' ;;
-    revise) options='--instance --at --until --add --release --budget --scrap --down --file --help' ;;
+    revise) options='--instance --at --until --add --release --budget --route --scrap --down --file --all --forget --names --hand-over --help' ;;
     resume) options='--instance --at --lines --leap --help' ;;
     *) return ;;
   esac

@@ -1,5 +1,5 @@
 -- What the words of a command line ask for, by the matches that `clap` finds in them.
-use Rattle.std.specs.Prelude.{◌≡◌, ◌≢◌, ◌≤◌, ◌++◌, ◌&&◌, ◌==◌, ℕ, if◌then◌else◌, Bool, true, false, List, [], ◌∷◌, Option, Some, None, IfSome, String, bytes_eq, length, map, option_map, is_some, not, pos, codes}
+use Rattle.std.specs.Prelude.{◌≡◌, ◌≢◌, ◌≤◌, ◌++◌, ◌&&◌, ◌||◌, ◌==◌, ℕ, if◌then◌else◌, Bool, true, false, List, [], ◌∷◌, Option, Some, None, IfSome, String, bytes_eq, length, map, option_map, is_some, not, pos, codes}
 use Rattle.std.specs.Option.{option_map_or}
 use Rattle.std.specs.String.{string_bytes}
 use Rattle.std.specs.declared.alloc.Global.{Global}
@@ -21,6 +21,8 @@ use Rattle.command_words.specs.declared.words.Lines.{Lines}
 use Rattle.command_words.specs.declared.words.Lines.TheVariants.{One, Two}
 use Rattle.command_words.specs.declared.words.log_start.LogStart.{LogStart}
 use Rattle.command_words.specs.declared.words.log_start.LogStart.TheVariants.{Any, New, Continue, HandOver}
+use Rattle.command_words.specs.declared.words.printed.Prints.{Prints}
+use Rattle.command_words.specs.declared.words.printed.Prints.TheVariants.{Plan as ThePlan, File as TheInstance, Log as AllTexts}
 use Rattle.command_words.specs.declared.words.WordsFault.{WordsFault}
 use Rattle.command_words.specs.declared.words.WordsFault.TheVariants.{Usage, Memory}
 
@@ -167,11 +169,12 @@ start_chosen rows = if is_set (codes "hand-over") rows then HandOver
 abbrev pub least_in : List Row → Bool
 least_in = is_set (codes "least")
 
--- whether the instance is asked for in place of the plan
-abbrev pub file_in : List Row → Bool
-file_in = is_set (codes "file")
+-- what is asked for of a changed plan: all texts, or the instance, or else the plan
+abbrev pub prints_chosen : List Row → Prints
+prints_chosen rows = if is_set (codes "all") rows then AllTexts (is_set (codes "forget") rows) (is_set (codes "hand-over") rows)
+    else (if is_set (codes "file") rows then TheInstance else ThePlan)
 
--- the choice holds the command, the files, the instance's name, the rounds, the seed, the choices, the job, the log of whose rest is asked, the log that is kept, the moment, the version of the lines, the longest time, the file of the names, how the log has to begin, the changes and the switches that were found in these words
+-- the choice holds the command, the files, the instance's name, the rounds, the seed, the choices, the job, the log of whose rest is asked, the log that is kept, the moment, the version of the lines, the longest time, the file of the names, how the log has to begin, the changes, what is printed of them and the switches that were found in these words
 pub record IsChoiceOf (words : List Text) (found : Found) (chosen : Chosen) : Type 0 where
   pub name : command_word_of chosen.name ≡ word_found found
   pub files : texts_of chosen.files.items ≡ files_in (rows_found found)
@@ -191,7 +194,7 @@ pub record IsChoiceOf (words : List Text) (found : Found) (chosen : Chosen) : Ty
   pub names : option_map string_bytes chosen.names ≡ names_chosen (rows_found found)
   pub start : chosen.start ≡ start_chosen (rows_found found)
   pub changes : map change_seen chosen.changes.items ≡ changes_in words (rows_found found)
-  pub file : chosen.file ≡ file_in (rows_found found)
+  pub prints : chosen.prints ≡ prints_chosen (rows_found found)
 
 -- what has to fit together of it, but for the changes
 pub record AreMarksOf (rows : List Row) (marks : Marks) : Type 0 where
@@ -323,9 +326,27 @@ marks_misfit rows others = or_else (misfits_of rows)
     (or_else (moves_misfit rows)
     (or_else (start_misfit rows) others)))))
 
+-- something is given that goes only with all texts: that what is over is left out, any plan of the log, or names
+abbrev pub goes_with_all : List Row → Bool
+goes_with_all rows = is_set (codes "forget") rows || (is_set (codes "hand-over") rows || is_some (names_chosen rows))
+
+-- a plan is changed, by the command of this word
+abbrev pub is_revision : Option Text → Bool
+is_revision word = option_map_or (λ w. bytes_eq w (codes "revise")) word false
+
+-- a plan is changed, and something that goes with all texts is given without them
+abbrev pub lacks_all : Option Text → List Row → Bool
+lacks_all word rows = is_revision word && (not (is_set (codes "all") rows) && goes_with_all rows)
+
+-- so of what is printed: all texts and the instance alone don't go together, and nothing goes with all texts where they aren't asked for
+abbrev pub prints_misfit : Option Text → List Row → Kinds
+prints_misfit word rows = refused_if (are_both_set (codes "all") (codes "file") rows) ArgumentConflict
+    (refused_if (lacks_all word rows) MissingRequiredArgument [])
+
 -- so of what was found in these words
 abbrev pub misfit_in : List Text → Found → Kinds
-misfit_in words found = marks_misfit (rows_found found) (revision_misfit words (rows_found found))
+misfit_in words found = marks_misfit (rows_found found)
+    (or_else (prints_misfit (word_found found) (rows_found found)) (revision_misfit words (rows_found found)))
 
 -- why the words are refused, or nothing where they are accepted: `clap`'s reasons, or else that what they ask for doesn't fit together
 abbrev pub reasons_in : List Text → Kinds

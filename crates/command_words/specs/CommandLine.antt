@@ -95,16 +95,23 @@ rest_command name more = plan_command name (option_rule (codes "after") ∷ opti
 abbrev pub lengthening_rules : List Rule
 lengthening_rules = option_rule (codes "at") ∷ repeated_rule (codes "until") ∷ repeated_rule (codes "add") ∷ []
 
--- these, and `--release R` and `--budget B`, which go with the `--add` before them
+-- these, `--release R` and `--budget B`, which go with the `--add` before them or are of a job, and `--route J=ROUTE`
 abbrev pub adding_rules : List Rule
 adding_rules = option_rule (codes "at") ∷ repeated_rule (codes "until") ∷ repeated_rule (codes "add")
-    ∷ repeated_rule (codes "release") ∷ repeated_rule (codes "budget") ∷ []
+    ∷ repeated_rule (codes "release") ∷ repeated_rule (codes "budget") ∷ repeated_rule (codes "route") ∷ []
 
 -- these, and `--scrap J`, `--down M` and `--file`: all that is changed in mid-run, and whether the instance is printed
+abbrev pub changing_rules : List Rule
+changing_rules = option_rule (codes "at") ∷ repeated_rule (codes "until") ∷ repeated_rule (codes "add")
+    ∷ repeated_rule (codes "release") ∷ repeated_rule (codes "budget") ∷ repeated_rule (codes "route")
+    ∷ repeated_rule (codes "scrap") ∷ repeated_rule (codes "down") ∷ switch_rule (codes "file") ∷ []
+
+-- these, and `--all`, with `--forget`, names and `--hand-over`: whether all texts are printed, what of them, and of whose log
 abbrev pub revising_rules : List Rule
 revising_rules = option_rule (codes "at") ∷ repeated_rule (codes "until") ∷ repeated_rule (codes "add")
-    ∷ repeated_rule (codes "release") ∷ repeated_rule (codes "budget")
-    ∷ repeated_rule (codes "scrap") ∷ repeated_rule (codes "down") ∷ switch_rule (codes "file") ∷ []
+    ∷ repeated_rule (codes "release") ∷ repeated_rule (codes "budget") ∷ repeated_rule (codes "route")
+    ∷ repeated_rule (codes "scrap") ∷ repeated_rule (codes "down") ∷ switch_rule (codes "file")
+    ∷ switch_rule (codes "all") ∷ switch_rule (codes "forget") ∷ names_rule ∷ switch_rule (codes "hand-over") ∷ []
 
 -- `--lines V` and `--leap S`: the version of the lines of a driven cell, and the longest time from one report to the next
 abbrev pub driven_rules : List Rule

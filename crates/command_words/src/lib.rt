@@ -4,5 +4,5 @@
 mod words;
 
 pub use words::{
-    AskedChange, ChangeKind, Chosen, CommandName, Lines, LogStart, WordsFault, read_words,
+    AskedChange, ChangeKind, Chosen, CommandName, Lines, LogStart, Prints, WordsFault, read_words,
 };

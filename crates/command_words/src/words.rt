@@ -19,6 +19,7 @@ ghost use Rattle.command_words.specs.Choice.{seed_in, texts_of, version_of, comm
 mod changes;
 mod command_line;
 mod log_start;
+mod printed;
 
 use changes::changes_of;
 pub use changes::{AskedChange, ChangeKind};
@@ -26,6 +27,8 @@ use clap::ArgMatches;
 use clap::error::ErrorKind;
 pub use log_start::LogStart;
 use log_start::start_of;
+pub use printed::Prints;
+use printed::prints_of;
 use std::alloc::{AllocError, Global};
 use text_lines::number_of;
 use thiserror::Error;
@@ -133,8 +136,8 @@ pub struct Chosen {
     pub start: LogStart,
     /// The changes of a plan in mid-run, in the order in which they are made.
     pub changes: Vec<AskedChange>,
-    /// Whether the changed instance is printed in place of the changed plan.
-    pub file: bool,
+    /// What is printed of a plan that is changed in mid-run.
+    pub prints: Prints,
 }
 
 /// What has to fit together of a choice, but for its changes.
@@ -215,8 +218,8 @@ impl From<Refusal> for WordsFault {
 /// these are refused: what `clap` refuses, a moment that isn't one, or that comes without a log, a version of the lines
 /// or a longest time that isn't one, a job that isn't a number of 1 to 9 digits, or that comes with the least makespan,
 /// moves that come with a picture, a beginning that comes without a log to keep, or of a log that is to be new and to
-/// have begun, a change that isn't one, and a release or a budget that goes with no job that is added, or with one that
-/// has it.
+/// have begun, of a changed plan all texts with the instance alone, or what goes with all texts without them, a change
+/// that isn't one, and a release or a budget that goes with no job that is added, or with one that has it.
 pub fn read_words(alloc: Global, words: &[&str]) -> Result<Chosen, WordsFault>
     ensures chosen { let given = map (λ word. word.now) words.now in IfOk result (IsChoiceOf given (found_in given)) }
     ensures within { IfOk result IsChoiceWithin }
@@ -280,7 +283,7 @@ fn chosen_by(alloc: Global, words: &[&str], matches: &ArgMatches<'_>) -> Result<
             names: None,
             start: LogStart::Any,
             changes: Vec::new(alloc),
-            file: false,
+            prints: Prints::Plan,
         }),
     }
 }
@@ -302,6 +305,7 @@ fn chosen_of(
         (misfit_in (map (λ given. given.now) words.now) (Some (word.now, rows_of (found_of matches.now))))) }
 {
     let marks = marks_of(alloc, word, matches)?;
+    let prints = prints_of(alloc, word, matches)?;
     let changes = changes_of(alloc, words, matches)?;
     let given = given_of(alloc, matches)?;
     Ok(Chosen {
@@ -323,7 +327,7 @@ fn chosen_of(
         names: given.names,
         start: marks.start,
         changes,
-        file: is_set(matches, "file"),
+        prints,
     })
 }
 

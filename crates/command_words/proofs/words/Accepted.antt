@@ -435,7 +435,22 @@ revised_fits = fits_leaf (as_built (log_command (codes "revise") revising_rules)
                     append_plain _ _ refl refl refl refl,
                     (
                       append_plain _ _ refl refl refl refl,
-                      (switch_plain _ _ refl refl refl, (help_plain _ _ refl refl refl refl, tt)),
+                      (
+                        append_plain _ _ refl refl refl refl,
+                        (
+                          switch_plain _ _ refl refl refl,
+                          (
+                            switch_plain _ _ refl refl refl,
+                            (
+                              switch_plain _ _ refl refl refl,
+                              (
+                                set_plain _ _ refl refl refl refl,
+                                (switch_plain _ _ refl refl refl, (help_plain _ _ refl refl refl refl, tt)),
+                              ),
+                            ),
+                          ),
+                        ),
+                      ),
                     ),
                   ),
                 ),

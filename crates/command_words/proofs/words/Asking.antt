@@ -1,5 +1,5 @@
 -- Steps through words and values from the front.
-use Rattle.std.proofs.Common.{◌≡◌, ◌∙◌, ◌+◌, ◌<◌, ◌≤◌, ◌&&◌, ℕ, Bool, true, false, List, [], ◌∷◌, Option, Some, None, ap, sym, refl, length, map, drop, get_or, add-one}
+use Rattle.std.proofs.Common.{◌≡◌, ◌∙◌, ◌+◌, ◌<◌, ◌≤◌, ◌&&◌, if◌then◌else◌, ℕ, Bool, true, false, List, [], ◌∷◌, Option, Some, None, ap, sym, subst, refl, length, map, drop, get_or, add-one}
 use Rattle.std.specs.Prelude.{MatchOption, is_some, option_and_then, unwrap_or}
 use Rattle.std.specs.Option.{option_map, option_map_or}
 use Rattle.std.specs.List.{list_all}
@@ -9,13 +9,16 @@ use Rattle.std.proofs.lemmas.Bool.{cond-true, cond-false}
 use Rattle.std.proofs.lemmas.List.{drop_all}
 use Rattle.std.proofs.lemmas.Option.{slice_get-map, slice_get_past, slice_get-get_or}
 use Rattle.text_lines.specs.Numbers.{value_of}
-use Rattle.clap.specs.Words.{Row, Text, all_of, matched_of, raw_values, rows_of}
+use Rattle.clap.specs.Words.{Kinds, Row, Text, all_of, matched_of, raw_values, rows_of}
 use Rattle.clap.specs.declared.error.kind.ErrorKind.TheVariants.{ArgumentConflict, ValueValidation}
 use Rattle.clap.specs.declared.parser.matches.Found.{Found}
 use Rattle.clap.proofs.WalkLemmas.{raw_values-rows}
 use Rattle.command_words.specs.CommandLine.{latest_moment}
-use Rattle.command_words.specs.Given.{is_moment}
-use Rattle.command_words.specs.Changes.{attached_misfit, moment_at, moment_read, owners_in, owners_used, placed_misfit, places_misfit, rises, values_misfit}
+use Rattle.command_words.specs.Given.{is_moment, values_of}
+use Rattle.command_words.specs.Changes.{attached_misfit, moment_at, moment_read, owners_in, owners_used, rises, rises_from, values_misfit}
+use Rattle.command_words.specs.Choice.{NamesOneOf}
+use Rattle.command_words.specs.declared.words.WordsFault.{WordsFault}
+use Rattle.command_words.specs.declared.words.WordsFault.TheVariants.{Usage, Memory}
 
 -- the text of each
 abbrev pub texts : List (Bor Text) → List Text
@@ -67,12 +70,12 @@ module _ (vals : List (Bor Text)) (values : List Text) (place : ℕ) (same : tex
       ∙ sym (ap (λ (o : Option Text). option_and_then moment_read o) (slice_get-map (λ (v : Bor Text). v.now) vals place ∙ ap (option_map (λ (v : Bor Text). v.now)) (slice_get-get_or vals place d inside)))
       ∙ ap (λ (vs : List Text). moment_at vs place) same
 
--- a word of which none is read
-pub not_all_read : (vals : List (Bor Text)) (values : List Text) (i : ℕ) (d : Bor Text) (moment : Option ℕ) → texts vals ≡ values → list_all is_moment (texts vals) ≡ list_all is_moment (texts (drop i vals)) → i < length vals
-    → MatchOption moment (is_moment (get_or vals i d).now ≡ false) (λ n. (is_moment (get_or vals i d).now ≡ true) × (n ≡ value_of (get_or vals i d).now) × (n ≤ latest_moment))
-    → is_some moment ≡ false → list_all is_moment values ≡ false
-not_all_read vals values i d None same so_far inside isnt none = not_all is_moment vals values i same so_far d inside isnt
-not_all_read vals values i d (Some n) same so_far inside is none = absurd (cc)
+-- a use whose value isn't a moment is passed over
+pub rises_over : (values : List Text) (owners : List ℕ) (place last d : ℕ) → place < length owners → is_some (moment_at values place) ≡ false
+    → rises_from values place last (drop place owners) ≡ rises_from values (place + 1) last (drop (place + 1) owners)
+rises_over values owners place last d inside none =
+    let at : drop place owners ≡ get_or owners place d ∷ drop (place + 1) owners = rw add-one (drop-cons owners place d inside) in
+    ap (rises_from values place last) at ∙ cond-false (is_some (moment_at values place)) _ _ none
 
 -- ---- an option that isn't used, and one that is
 
@@ -95,7 +98,8 @@ module _ (name flag : Text) (words : List Text) (rows : List Row) where
   none_owned none = sym (ap (λ (o : Option (List Text)). option_map_or (λ _. owners_in flag words) o []) none)
 
   pub none_misfit : all_of name rows ≡ None → attached_misfit name flag words rows ≡ []
-  none_misfit none = ap (λ (o : Option (List Text)). placed_misfit (unwrap_or o []) (option_map_or (λ _. owners_in flag words) o [])) none
+  none_misfit none =
+      ap (λ (o : Option (List Text)). if rises (unwrap_or o []) (option_map_or (λ _. owners_in flag words) o []) then [] else ArgumentConflict ∷ []) none
 
   pub all_owned : is_some (all_of name rows) ≡ true → owners_in flag words ≡ owners_used name flag words rows
   all_owned = go (all_of name rows)
@@ -104,14 +108,35 @@ module _ (name flag : Text) (words : List Text) (rows : List Row) where
       go None some = absurd (cc)
       go (Some values) some = refl
 
--- ---- what is said of values and of places
+  pub places_clash : is_some (all_of name rows) ≡ true → rises (values_of name rows) (owners_in flag words) ≡ false → attached_misfit name flag words rows ≡ ArgumentConflict ∷ []
+  places_clash used clash =
+      cond-false (rises (values_of name rows) (owners_used name flag words rows)) [] (ArgumentConflict ∷ []) (ap (rises (values_of name rows)) (sym (all_owned used)) ∙ clash)
 
-module _ (is_such : Text → Bool) (values : List Text) where
-  pub such_fits : list_all is_such values ≡ true → values_misfit is_such values ≡ []
-  such_fits is = cond-true (list_all is_such values) [] (ValueValidation ∷ []) is
+  pub places_fit : is_some (all_of name rows) ≡ true → rises (values_of name rows) (owners_in flag words) ≡ true → attached_misfit name flag words rows ≡ []
+  places_fit used fit =
+      cond-true (rises (values_of name rows) (owners_used name flag words rows)) [] (ArgumentConflict ∷ []) (ap (rises (values_of name rows)) (sym (all_owned used)) ∙ fit)
 
-  pub such_misfit : list_all is_such values ≡ false → values_misfit is_such values ≡ ValueValidation ∷ []
-  such_misfit isnt = cond-false (list_all is_such values) [] (ValueValidation ∷ []) isnt
+-- ---- what is said of values
 
-pub places_clash : (owners : List ℕ) → rises 0 owners ≡ false → places_misfit owners ≡ ArgumentConflict ∷ []
-places_clash owners isnt = cond-false (rises 0 owners) [] (ArgumentConflict ∷ []) isnt
+module _ (is_such : Text → Bool) where
+  pub such_fits : (values : List Text) → list_all is_such values ≡ true → values_misfit is_such values ≡ []
+  such_fits values is = cond-true (list_all is_such values) [] (ValueValidation ∷ []) is
+
+  pub such_misfit : (values : List Text) → list_all is_such values ≡ false → values_misfit is_such values ≡ ValueValidation ∷ []
+  such_misfit values isnt = cond-false (list_all is_such values) [] (ValueValidation ∷ []) isnt
+
+  -- a fault of one of them is one of theirs
+  pub among_values : (vals : List (Bor Text)) (values : List Text) (i : ℕ) (d : Bor Text) (fault : WordsFault) → texts vals ≡ values → list_all is_such (texts vals) ≡ list_all is_such (texts (drop i vals))
+      → i < length vals → NamesOneOf (values_misfit is_such ((get_or vals i d).now ∷ [])) fault → NamesOneOf (values_misfit is_such values) fault
+  among_values vals values i d fault same so_far inside named = go (is_such (get_or vals i d).now) refl
+    where
+      none_named : (f : WordsFault) → NamesOneOf [] f → NamesOneOf (values_misfit is_such values) f
+      none_named Memory is = tt
+      none_named (Usage help text) is = absurd (is.1)
+
+      go : (b : Bool) → is_such (get_or vals i d).now ≡ b → NamesOneOf (values_misfit is_such values) fault
+      go true is = none_named fault (subst (λ (kinds : Kinds). NamesOneOf kinds fault) (such_fits ((get_or vals i d).now ∷ []) (ap (λ (b : Bool). b && true) is)) named)
+      go false isnt =
+          let one = such_misfit ((get_or vals i d).now ∷ []) (ap (λ (b : Bool). b && true) isnt) in
+          let all = such_misfit values (not_all is_such vals values i same so_far d inside isnt) in
+          subst (λ (kinds : Kinds). NamesOneOf kinds fault) (one ∙ sym all) named

@@ -1,9 +1,12 @@
 -- Which reasons a fault names.
-use Rattle.std.proofs.Common.{◌≡◌, ◌∙◌, [], ◌∷◌, List, Some, None, option_map, Result, Ok, Err, IfOk, IfErr, IsErrAnd, ap, subst, sym, refl, inl}
-use Rattle.clap.specs.Words.{IsAmong, Kinds, Row, Text}
+use Rattle.std.proofs.Common.{◌≡◌, ◌∙◌, [], ◌∷◌, List, Option, Some, None, option_map, Result, Ok, Err, IfOk, IfErr, IsErrAnd, ap, ap₂, subst, sym, refl, inl}
+use Rattle.std.specs.Box.{box_value}
+use Rattle.clap.specs.Words.{IsAmong, Kinds, Row, Text, found_of, rows_of, subcommand_name_of, subcommand_rows_of}
 use Rattle.clap.specs.Kinds.{or_else}
 use Rattle.clap.specs.declared.error.kind.ErrorKind.{ErrorKind}
-use Rattle.command_words.specs.Choice.{Found, IsFaultOf, NamesOneOf, NamesReason, rows_found}
+use Rattle.clap.specs.declared.parser.matches.ArgMatches.{ArgMatches}
+use Rattle.clap.specs.declared.parser.matches.ArgMatches.TheViews.{out-ArgMatches, out-SubCommand}
+use Rattle.command_words.specs.Choice.{IsFaultOf, NamesOneOf, NamesReason}
 use Rattle.command_words.specs.declared.words.Chosen.{Chosen}
 use Rattle.command_words.specs.declared.words.WordsFault.{WordsFault}
 use Rattle.command_words.specs.declared.words.WordsFault.TheVariants.{Usage, Memory}
@@ -55,7 +58,18 @@ pub passed_on : {A : Type 0} (Is : WordsFault → Type 0) (read : Result A Words
 passed_on Is (Ok chosen) fault passed is = tt
 passed_on Is (Err reason) fault passed is = subst Is (sym passed) is
 
--- the matches of a command that was found
-pub rows_same : (found : Found) (rows : List Row) → Some rows ≡ option_map (λ (p : Text × List Row). p.1) found → rows_found found ≡ rows
-rows_same None rows is = absurd (cc)
-rows_same (Some p) rows is = (let same : p.1 ≡ rows = cc in same)
+-- ---- the command that was found, by its word and its matches
+
+found_pair : {B : Type 0} (name : B → Text) (rows : B → List Row) (b : Option B) (word : Text) (these : List Row) → Some word ≡ option_map name b
+    → Some these ≡ option_map (λ (p : Text × List Row). p.1) (option_map {U = Text × List Row} (λ (x : B). (name x, rows x)) b)
+    → option_map {U = Text × List Row} (λ (x : B). (name x, rows x)) b ≡ Some (word, these)
+found_pair name rows None word these named given = absurd (cc)
+found_pair name rows (Some x) word these named given =
+    let one : name x ≡ word = cc in
+    let other : rows x ≡ these = cc in
+    ap₂ (λ (w : Text) (r : List Row). Some (w, r)) one other
+
+pub found_same : (m : ArgMatches) (word : Text) (these : List Row) → Some word ≡ subcommand_name_of m → Some these ≡ option_map (λ (p : Text × List Row). p.1) (subcommand_rows_of m)
+    → subcommand_rows_of m ≡ Some (word, these)
+found_same m word these named given =
+    found_pair (λ b. (out-SubCommand (box_value b)).name.now) (λ b. rows_of (found_of (out-SubCommand (box_value b)).matches)) (out-ArgMatches m).subcommand word these named given

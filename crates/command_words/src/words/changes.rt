@@ -1,14 +1,16 @@
 //! The changes of a plan in mid-run that the words ask for.
 
-ghost use Rattle.std.specs.Prelude.{◌≡◌, ◌++◌, ◌∷◌, [], true, false, IfOk, IfErr, MatchOption, OnOk, codes, map};
-ghost use Rattle.std.specs.List.{list_all};
+ghost use Rattle.std.specs.Prelude.{◌≡◌, ◌++◌, ◌∷◌, [], true, false, IfOk, IfErr, IfSome, MatchOption, OnOk, codes, map};
+ghost use Rattle.std.specs.List.{after_first};
+ghost use Rattle.std.specs.String.{string_bytes};
 ghost use Rattle.clap.specs.Words.{found_of, rows_of};
-ghost use Rattle.command_words.specs.Given.{is_moment, is_short, values_of};
+ghost use Rattle.command_words.specs.Given.{is_short, values_of};
 ghost use Rattle.text_lines.specs.Numbers.{value_of};
-ghost use Rattle.command_words.specs.Changes.{all_asked, asked_by, attached_misfit, change_seen, changes_in, ends_name};
-ghost use Rattle.command_words.specs.Changes.{form_misfit, forms_misfit, is_such, is_until, kind_in, kind_of_until};
-ghost use Rattle.command_words.specs.Changes.{moment_at, moment_with, option_of, owners_in, owners_used, placed_misfit};
-ghost use Rattle.command_words.specs.Changes.{revision_misfit, rises, uses};
+ghost use Rattle.command_words.specs.Changes.{all_asked, asked_by, asked_one, attached_misfit, change_seen, changes_in};
+ghost use Rattle.command_words.specs.Changes.{ends_name, form_misfit, forms_misfit, is_attached, is_equals, is_own};
+ghost use Rattle.command_words.specs.Changes.{is_routed, is_such, is_timed, kind_in, moment_at, moment_behind, moment_for};
+ghost use Rattle.command_words.specs.Changes.{moment_with, number_before, option_of, owners_in, owners_used, revision_misfit};
+ghost use Rattle.command_words.specs.Changes.{rises, uses, values_misfit};
 ghost use Rattle.command_words.specs.Choice.{NamesOneOf, NamesReason};
 
 use crate::words::{
@@ -25,6 +27,18 @@ pub struct AskedChange {
     pub value: String,
     /// What is asked for.
     pub kind: ChangeKind,
+}
+
+impl AskedChange {
+    /// The route that is given with a job, `J=ROUTE`: what stands behind the first equals sign, if there is one.
+    pub fn route(&self) -> &str
+        ensures { result.now ≡ after_first is_equals (string_bytes self.now.value) }
+    {
+        match self.value.split_once('=') {
+            Some((_, route)) => route,
+            None => "",
+        }
+    }
 }
 
 /// What is changed in mid-run. Jobs and machines have 9 digits at most, and moments are at most 1,000,000,000,000.
@@ -44,6 +58,25 @@ pub enum ChangeKind {
         /// Its budget, if one is given.
         budget: Option<u64>,
     },
+    /// A job goes another way from where it is.
+    Route {
+        /// The job.
+        job: u32,
+    },
+    /// A job that hasn't come is due at a moment.
+    Release {
+        /// The job.
+        job: u32,
+        /// Its release.
+        moment: u64,
+    },
+    /// What is promised of a job.
+    Budget {
+        /// The job.
+        job: u32,
+        /// Its budget.
+        moment: u64,
+    },
     /// A job is removed from the line, or from the plan.
     Scrap {
         /// The job.
@@ -61,6 +94,9 @@ pub enum ChangeKind {
 enum ChangeForm {
     Until,
     Add,
+    Route,
+    Release,
+    Budget,
     Scrap,
     Down,
 }
@@ -69,12 +105,15 @@ enum ChangeForm {
 const FORMS: &[ChangeForm] = &[
     ChangeForm::Until,
     ChangeForm::Add,
+    ChangeForm::Route,
+    ChangeForm::Release,
+    ChangeForm::Budget,
     ChangeForm::Scrap,
     ChangeForm::Down,
 ];
 
-/// The changes that the words ask for, in the order in which they are made. The numbers of an added job belong to the
-/// `--add` before them, and each stands once for it.
+/// The changes that the words ask for, in the order in which they are made. A release or a budget without an equals sign
+/// belongs to the `--add` before it, and each stands once for it.
 pub(crate) fn changes_of(
     alloc: Global,
     words: &[&str],
@@ -112,7 +151,8 @@ fn asked(
     Ok(changes)
 }
 
-/// Of each use of an option that goes with added jobs how many are added before it, where it is used.
+/// Of each use of an option that goes with added jobs how many are added before it, where it is used. No two uses with
+/// a moment alone go with one job.
 fn attached_to(
     alloc: Global,
     words: &[&str],
@@ -130,47 +170,11 @@ fn attached_to(
     if !matches.contains_id(name) {
         return Ok(Vec::new(alloc));
     }
-    placed(alloc, words, matches, name, flag)
-}
-
-/// Of each use of an option how many jobs are added before it. Its values are moments, and no two go with one job.
-fn placed(
-    alloc: Global,
-    words: &[&str],
-    matches: &ArgMatches<'_>,
-    name: &str,
-    flag: &str,
-) -> Result<Vec<usize>, WordsFault>
-    ensures exact { IfOk result (λ owners. owners.items ≡ owners_in flag.now (map (λ word. word.now) words.now)) }
-    ensures fits { let values = values_of name.now (rows_of (found_of matches.now)) in
-        IfOk result (λ _. placed_misfit values (owners_in flag.now (map (λ word. word.now) words.now)) ≡ []) }
-    ensures refused { let values = values_of name.now (rows_of (found_of matches.now)) in
-        IfErr result (NamesOneOf (placed_misfit values (owners_in flag.now (map (λ word. word.now) words.now)))) }
-{
-    if let Some(word) = no_moment_in(matches, name) {
-        return Err(no_attached_moment(alloc, word, flag));
-    }
     let owners = owners_of(alloc, words, flag)?;
-    if !rises(&owners) {
+    if !rises(matches, name, &owners) {
         return Err(misplaced(alloc, flag));
     }
     Ok(owners)
-}
-
-/// The first value of an option that isn't a moment.
-fn no_moment_in<'a>(matches: &ArgMatches<'a>, name: &str) -> Option<&'a str>
-    ensures { let given = values_of name.now (rows_of (found_of matches.now)) in
-        MatchOption result (list_all is_moment given ≡ true) (λ _. list_all is_moment given ≡ false) }
-{
-    let Some(given) = matches.get_raw(name) else {
-        return None;
-    };
-    for word in given {
-        if moment_of(word).is_none() {
-            return Some(*word);
-        }
-    }
-    None
 }
 
 /// Whether what is left of a word behind an option's name ends that name.
@@ -213,12 +217,15 @@ fn owners_of(alloc: Global, words: &[&str], flag: &str) -> Result<Vec<usize>, Al
     Ok(owners)
 }
 
-/// Whether each use stands behind an added job, and no two behind the same one.
-fn rises(owners: &[usize]) -> bool
-    ensures { result ≡ rises 0 owners.now }
+/// Whether each use with a moment alone stands behind an added job, and no two behind the same one.
+fn rises(matches: &ArgMatches<'_>, name: &str, owners: &[usize]) -> bool
+    ensures { result ≡ rises (values_of name.now (rows_of (found_of matches.now))) owners.now }
 {
     let mut last = 0;
-    for owner in owners {
+    for (place, owner) in owners.iter().enumerate() {
+        if moment_at(matches, name, place).is_none() {
+            continue;
+        }
         if *owner <= last {
             return false;
         }
@@ -245,12 +252,60 @@ fn add_changes(
         return Ok(());
     };
     for (place, word) in given.iter().enumerate() {
-        let Some(kind) = kind_of(matches, released, promised, form, place + 1, word) else {
-            return Err(no_change(alloc, form, word));
-        };
-        add_change(alloc, changes, word, kind)?;
+        add_value(
+            alloc,
+            changes,
+            matches,
+            released,
+            promised,
+            form,
+            place + 1,
+            word,
+        )?;
     }
     Ok(())
+}
+
+/// Adds the change that a value of an option asks for, if it asks for one of its own.
+fn add_value(
+    alloc: Global,
+    changes: &mut Vec<AskedChange>,
+    matches: &ArgMatches<'_>,
+    released: &[usize],
+    promised: &[usize],
+    form: ChangeForm,
+    number: usize,
+    word: &str,
+) -> Result<(), WordsFault>
+    ensures added { OnOk result (map change_seen changes.new.items ≡ map change_seen changes.old.items
+        ++ asked_one released.now promised.now (rows_of (found_of matches.now)) form number word.now) }
+    ensures fits { OnOk result (is_such form word.now ≡ true) }
+    ensures refused { IfErr result (NamesOneOf (values_misfit (is_such form) (word.now ∷ []))) }
+{
+    if is_attached(form, word) {
+        return Ok(());
+    }
+    match kind_of(matches, released, promised, form, number, word) {
+        Some(kind) => {
+            add_change(alloc, changes, word, kind)?;
+            Ok(())
+        }
+        None => Err(no_change(alloc, form, word)),
+    }
+}
+
+/// Whether a value goes with an added job, and is no change of its own.
+fn is_attached(form: ChangeForm, word: &str) -> bool
+    ensures { result ≡ is_attached form word.now }
+{
+    match form {
+        ChangeForm::Release | ChangeForm::Budget => moment_of(word).is_some(),
+        ChangeForm::Until
+        | ChangeForm::Add
+        | ChangeForm::Route
+        | ChangeForm::Scrap
+        | ChangeForm::Down => false,
+    }
 }
 
 /// Adds a change.
@@ -275,12 +330,15 @@ fn option_of(form: ChangeForm) -> &'static str
     match form {
         ChangeForm::Until => "until",
         ChangeForm::Add => "add",
+        ChangeForm::Route => "route",
+        ChangeForm::Release => "release",
+        ChangeForm::Budget => "budget",
         ChangeForm::Scrap => "scrap",
         ChangeForm::Down => "down",
     }
 }
 
-/// What a value of an option asks for: of `--add` the job that is added as this one, counted from 1.
+/// What a value of an option asks for by itself: of `--add` the job that is added as this one, counted from 1.
 fn kind_of(
     matches: &ArgMatches<'_>,
     released: &[usize],
@@ -289,17 +347,32 @@ fn kind_of(
     number: usize,
     word: &str,
 ) -> Option<ChangeKind>
-    ensures { MatchOption result (is_such form word.now ≡ false) (λ kind. (is_such form word.now ≡ true)
+    ensures { MatchOption result (is_own form word.now ≡ false) (λ kind. (is_own form word.now ≡ true)
         × (kind ≡ kind_in released.now promised.now (rows_of (found_of matches.now)) form number word.now)) }
 {
     match form {
-        ChangeForm::Until => until_of(word),
+        ChangeForm::Until => match timed(word) {
+            Some((machine, moment)) => Some(ChangeKind::Until { machine, moment }),
+            None => None,
+        },
         ChangeForm::Add => {
             Some(ChangeKind::Add {
                 release: moment_with(matches, "release", released, number),
                 budget: moment_with(matches, "budget", promised, number),
             })
         }
+        ChangeForm::Route => match routed(word) {
+            Some(job) => Some(ChangeKind::Route { job }),
+            None => None,
+        },
+        ChangeForm::Release => match timed(word) {
+            Some((job, moment)) => Some(ChangeKind::Release { job, moment }),
+            None => None,
+        },
+        ChangeForm::Budget => match timed(word) {
+            Some((job, moment)) => Some(ChangeKind::Budget { job, moment }),
+            None => None,
+        },
         ChangeForm::Scrap => match short_number(word) {
             Some(job) => Some(ChangeKind::Scrap { job }),
             None => None,
@@ -311,21 +384,32 @@ fn kind_of(
     }
 }
 
-/// The moment until which something lasts on a machine, `M=T`.
-fn until_of(word: &str) -> Option<ChangeKind>
-    ensures { MatchOption result (is_until word.now ≡ false)
-        (λ kind. (is_until word.now ≡ true) × (kind ≡ kind_of_until word.now)) }
+/// A number and a moment, `M=T` or `J=R`.
+fn timed(word: &str) -> Option<(u32, u64)>
+    ensures { MatchOption result (is_timed word.now ≡ false)
+        (λ pair. (is_timed word.now ≡ true) × (pair.0 ≡ number_before word.now) × (pair.1 ≡ moment_behind word.now)) }
 {
-    let Some((machine, moment)) = word.split_once('=') else {
+    let Some((number, moment)) = word.split_once('=') else {
         return None;
     };
-    let Some(machine) = short_number(machine) else {
+    let Some(number) = short_number(number) else {
         return None;
     };
     match moment_of(moment) {
-        Some(moment) => Some(ChangeKind::Until { machine, moment }),
+        Some(moment) => Some((number, moment)),
         None => None,
     }
+}
+
+/// The job that gets a route, `J=ROUTE`.
+fn routed(word: &str) -> Option<u32>
+    ensures { MatchOption result (is_routed word.now ≡ false)
+        (λ job. (is_routed word.now ≡ true) × (job ≡ number_before word.now)) }
+{
+    let Some((job, _)) = word.split_once('=') else {
+        return None;
+    };
+    short_number(job)
 }
 
 /// The number of 1 to 9 digits that the word is.
@@ -349,11 +433,28 @@ fn moment_with(matches: &ArgMatches<'_>, name: &str, owners: &[usize], number: u
     ensures { result ≡ moment_with owners.now (values_of name.now (rows_of (found_of matches.now))) number }
 {
     for (place, owner) in owners.iter().enumerate() {
-        if *owner == number {
-            return moment_at(matches, name, place);
+        if let Some(moment) = moment_for(matches, name, place, *owner, number) {
+            return Some(moment);
         }
     }
     None
+}
+
+/// The moment that a use of an option has for an added job, if it goes with that job and its value is a moment.
+fn moment_for(
+    matches: &ArgMatches<'_>,
+    name: &str,
+    place: usize,
+    owner: usize,
+    number: usize,
+) -> Option<u64>
+    ensures { result ≡ moment_for (values_of name.now (rows_of (found_of matches.now))) number place owner }
+{
+    if owner == number {
+        moment_at(matches, name, place)
+    } else {
+        None
+    }
 }
 
 /// The moment that is the value of an option at a place, if there is one.
@@ -378,24 +479,17 @@ fn no_change(alloc: Global, form: ChangeForm, word: &str) -> WordsFault
             "' for '--until <M=T>': a machine of 1 to 9 digits, and a moment, at most 1000000000000"
         }
         ChangeForm::Add => "' for '--add <ROUTE>'",
+        ChangeForm::Route => "' for '--route <J=ROUTE>': a job of 1 to 9 digits, and a route",
+        ChangeForm::Release => {
+            "' for '--release <R>': a moment, at most 1000000000000, behind J= that of job J"
+        }
+        ChangeForm::Budget => {
+            "' for '--budget <B>': a moment, at most 1000000000000, behind J= that of job J"
+        }
         ChangeForm::Scrap => "' for '--scrap <J>': a job has 1 to 9 digits",
         ChangeForm::Down => "' for '--down <M>': a machine has 1 to 9 digits",
     };
     no_number(alloc, word, wanted)
-}
-
-/// The fault of a value of an option of an added job that isn't a moment.
-fn no_attached_moment(alloc: Global, word: &str, flag: &str) -> WordsFault
-    ensures { NamesReason ErrorKind.ValueValidation result }
-{
-    let parts = [
-        "invalid value '",
-        word,
-        "' for '",
-        flag,
-        "': a moment has 1 to 13 digits, and is at most 1000000000000",
-    ];
-    misfit(alloc, ErrorKind::ValueValidation, parts.as_slice())
 }
 
 /// The fault of an option that goes with no added job, or with one that has it already.

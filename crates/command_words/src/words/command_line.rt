@@ -2,7 +2,7 @@
 
 ghost use Rattle.std.specs.Prelude.{◌≡◌, IfOk, [], ◌∷◌, false, codes};
 ghost use Rattle.clap.specs.Words.{App, Rule, Shape, rule_of, with_rule, with_subcommand};
-ghost use Rattle.command_words.specs.CommandLine.{Describes, adding_rules, bare_program, choices_rule, command};
+ghost use Rattle.command_words.specs.CommandLine.{Describes, adding_rules, bare_program, changing_rules, choices_rule, command};
 ghost use Rattle.command_words.specs.CommandLine.{command_line, described, file_rule, leaf, lengthening_rules};
 ghost use Rattle.command_words.specs.CommandLine.{log_command, log_rules, names_rule, option_rule, plan_command};
 ghost use Rattle.command_words.specs.CommandLine.{plans_rule, program_with, repeated_rule, rest_command, rounds_rule};
@@ -14,7 +14,7 @@ use clap::{Arg, ArgAction, Command};
 use std::alloc::{AllocError, Global};
 
 /// The version of the program, the same as in the file `VERSION`.
-const VERSION: &str = "3.0.0";
+const VERSION: &str = "3.1.0";
 
 /// A file that has to be named.
 fn file<'a>(alloc: Global, name: &'a str, help: &'a str) -> Arg<'a>
@@ -326,19 +326,21 @@ fn lengthened<'a>(alloc: Global) -> Result<Command<'a>, AllocError>
     with_arg(lasting, repeated(alloc, "add", "ROUTE", add))
 }
 
-/// The numbers of the jobs that are added, behind those.
+/// The numbers of the jobs that are added, behind those, and the jobs that go another way.
 fn added<'a>(alloc: Global) -> Result<Command<'a>, AllocError>
     ensures { IfOk result (Describes (leaf (log_command (codes "revise") adding_rules))) }
 {
-    let release = "The release of the job added before, by default N";
-    let budget = "The budget of the job added before, by default none";
+    let release = "The release of the job added before, or J=R of job J";
+    let budget = "The budget of the job added before, or J=B of job J";
+    let route = "Send job J another way from where it is";
     let released = with_arg(lengthened(alloc), repeated(alloc, "release", "R", release));
-    with_arg(released, repeated(alloc, "budget", "B", budget))
+    let promised = with_arg(released, repeated(alloc, "budget", "B", budget));
+    with_arg(promised, repeated(alloc, "route", "J=ROUTE", route))
 }
 
-/// A plan that is changed in mid-run.
-fn revised<'a>(alloc: Global) -> Result<Command<'a>, AllocError>
-    ensures { IfOk result (Describes (leaf (described CommandName.Revise))) }
+/// A plan that is changed in mid-run, of which the plan or the instance is printed.
+fn changed<'a>(alloc: Global) -> Result<Command<'a>, AllocError>
+    ensures { IfOk result (Describes (leaf (log_command (codes "revise") changing_rules))) }
 {
     let scrap = "Take job J out of the line by hand, or out of the plan";
     let down = "Let machine M do no more for the rest of the run";
@@ -346,6 +348,19 @@ fn revised<'a>(alloc: Global) -> Result<Command<'a>, AllocError>
     let fewer = with_arg(added(alloc), repeated(alloc, "scrap", "J", scrap));
     let changed = with_arg(fewer, repeated(alloc, "down", "M", down));
     with_arg(changed, switch(alloc, "file", file))
+}
+
+/// A plan that is changed in mid-run.
+fn revised<'a>(alloc: Global) -> Result<Command<'a>, AllocError>
+    ensures { IfOk result (Describes (leaf (described CommandName.Revise))) }
+{
+    let all = "Print the log, with all texts in it";
+    let over = "Leave out the jobs that are over";
+    let hand_over = "Take a log of whichever plan";
+    let whole = with_arg(changed(alloc), switch(alloc, "all", all));
+    let shorter = with_arg(whole, switch(alloc, "forget", over));
+    let named = with_arg(shorter, names(alloc));
+    with_arg(named, switch(alloc, "hand-over", hand_over))
 }
 
 /// A command on an instance and several plans.

@@ -1,7 +1,8 @@
 use Rattle.std.proofs.Common.{◌∙◌, ap, subst, sym}
 use Rattle.clap.specs.Words.{Kinds, found_of, rows_of}
+use Rattle.command_words.specs.Changes.{asked_of, misfit_by}
 use Rattle.command_words.specs.Choice.{NamesOneOf}
-use Rattle.command_words.proofs.words.Forms.{asked_of, every_asked, every_misfit, form_refused, last_asked, last_fits, misfit_of, next_asked, next_fits}
+use Rattle.command_words.proofs.words.Forms.{form_refused, last_asked, last_fits, next_asked, next_fits}
 use Rattle.command_words.proofs.words.Reasons.{passed_on}
 use Rattle.command_words.proofs.words.changes.asked.Goals as goal
 
@@ -19,7 +20,7 @@ returns-in_err-add_changes-clause-refused c =
     let rows = rows_of (found_of c.args.matches.now) in
     let fault = c.in_err-add_changes.field-0.0 in
     passed_on _ c.from_residual.result fault c.from_residual.ensures.1
-    (subst (λ (kinds : Kinds). NamesOneOf kinds fault) (ap (misfit_of rows) c.loop-form.invariant.forms ∙ every_misfit rows)
+    (subst (λ (kinds : Kinds). NamesOneOf kinds fault) (ap (misfit_by rows) c.loop-form.invariant.forms)
     (form_refused rows _ c.loop-form.form-index _ fault c.loop-form-test.true c.loop-form.invariant.fits c.in_err-add_changes.ensures.refused))
 
 pub returns-clause-exact : goal.returns-clause-exact
@@ -27,10 +28,9 @@ returns-clause-exact c =
     let rows = rows_of (found_of c.args.matches.now) in
     last_asked c.args.released.now c.args.promised.now rows _ c.loop-form.form-index _ _ c.loop-form-test.false c.loop-form.invariant.so_far
     ∙ ap (asked_of c.args.released.now c.args.promised.now rows) c.loop-form.invariant.forms
-    ∙ every_asked c.args.released.now c.args.promised.now rows
 
 pub returns-clause-fits : goal.returns-clause-fits
 returns-clause-fits c =
     let rows = rows_of (found_of c.args.matches.now) in
-    sym (every_misfit rows) ∙ sym (ap (misfit_of rows) c.loop-form.invariant.forms)
+    sym (ap (misfit_by rows) c.loop-form.invariant.forms)
     ∙ last_fits rows _ c.loop-form.form-index c.loop-form-test.false c.loop-form.invariant.fits

@@ -3,4 +3,5 @@ use Rattle.command_words.proofs.words.command_line.added.Goals as goal
 pub returns : goal.returns
 returns c =
     let released = c.with_arg-released.ensures _ _ c.lengthened.ensures c.repeated.ensures.rule c.repeated.ensures.local in
-    c.with_arg.ensures _ _ released c.repeated-2.ensures.rule c.repeated-2.ensures.local
+    let promised = c.with_arg-promised.ensures _ _ released c.repeated-2.ensures.rule c.repeated-2.ensures.local in
+    c.with_arg.ensures _ _ promised c.repeated-3.ensures.rule c.repeated-3.ensures.local

@@ -2,6 +2,7 @@ use Rattle.command_words.proofs.words.command_line.revised.Goals as goal
 
 pub returns : goal.returns
 returns c =
-    let fewer = c.with_arg-fewer.ensures _ _ c.added.ensures c.repeated.ensures.rule c.repeated.ensures.local in
-    let changed = c.with_arg-changed.ensures _ _ fewer c.repeated-2.ensures.rule c.repeated-2.ensures.local in
-    c.with_arg.ensures _ _ changed c.switch.ensures.rule c.switch.ensures.local
+    let whole = c.with_arg-whole.ensures _ _ c.changed.ensures c.switch.ensures.rule c.switch.ensures.local in
+    let shorter = c.with_arg-shorter.ensures _ _ whole c.switch-2.ensures.rule c.switch-2.ensures.local in
+    let named = c.with_arg-named.ensures _ _ shorter c.names.ensures.rule c.names.ensures.local in
+    c.with_arg.ensures _ _ named c.switch-3.ensures.rule c.switch-3.ensures.local
