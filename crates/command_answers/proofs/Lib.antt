@@ -7,6 +7,7 @@ pub mod AskedJobs
 pub mod NamesAndLogs
 pub mod RestAnswers
 pub mod RevisedAnswers
+pub mod ChapterTexts
 pub mod RunFaults
 pub mod KeptLogs
 pub mod ImproveRestLines

@@ -1,47 +1,44 @@
 -- The answers of the command `revise`.
-use Rattle.std.proofs.Common.{◌≡◌, ◌∙◌, ◌<◌, ◌≤◌, ℕ, List, [], Option, Result, Ok, Err, refl, sym, subst, inl, inr}
-use Rattle.std.specs.Prelude.{slice_get}
-use Rattle.std.proofs.lemmas.Option.{slice_get_within}
+use Rattle.std.proofs.Common.{◌≡◌, ◌<◌, ℕ, List, [], Bool, Result, Ok, Err, refl, sym, subst, inl, inr}
 use Rattle.shop_base.specs.Shop.{JobShop}
 use Rattle.shop_base.specs.Plan.{PlannedShop}
 use Rattle.shop_base.specs.Cell.{Cell}
-use Rattle.shop_base.specs.Run.{ends_in}
-use Rattle.text_lines.specs.Lines.{ended_lines}
-use Rattle.cell_tables.specs.Events.{events_of}
-use Rattle.run_log.specs.Audits.{ParseAsRun}
+use Rattle.shop_base.specs.Run.{Event}
+use Rattle.people_names.specs.NameBooks.{NameBook}
 use Rattle.orlib_read.specs.declared.document.NotWritten.{NotWritten}
 use Rattle.orlib_read.specs.declared.document.NotWritten.TheVariants.{NotReadBack as NotRead, Memory as OutOfMemory}
 use Rattle.plan_revise.specs.declared.change.Change.{Change}
 use Rattle.plan_revise.specs.declared.change.NotRevised.{NotRevised}
 use Rattle.plan_revise.specs.declared.change.NotRevised.TheVariants.{Refused, Memory as NoMemory}
-use Rattle.plan_revise.specs.Revised.{IsReasonNotRevised}
+use Rattle.run_revising.specs.NextRuns.{IsReasonNoNextRun, IsAtOneOf}
 use Rattle.command_answers.specs.declared.answer.Answer.{Answer}
 use Rattle.command_answers.specs.declared.command_fault.CommandFault.{CommandFault}
 use Rattle.command_answers.specs.declared.command_fault.CommandFault.TheVariants.{Instance, Plan, Names, Read, Write, InputTooLong, Log, LogInUse, Memory}
 use Rattle.command_answers.specs.declared.command_fault.Unrevised.{Unrevised}
-use Rattle.command_answers.specs.declared.revises.Revised.{Revised}
-use Rattle.command_answers.specs.Revising.{IsChangeRefused, IsInstanceAnswer, IsPlaced, IsUnread, IsUnrevised, unrevised_of, unwritten_fault}
+use Rattle.command_answers.specs.Asked.{AskedRevision}
+use Rattle.command_answers.specs.Chapters.{leaves_out}
+use Rattle.command_answers.specs.InstanceTexts.{IsInstanceAnswer, IsUnread, unwritten_fault}
+use Rattle.command_answers.specs.Revising.{IsChangeRefused, IsPlaced, IsUnrevised, unrevised_of}
 use Rattle.command_answers.specs.Steps.{IsOrMemory}
 
 -- ---- a change that can't be
 
-module _ (p : PlannedShop) (c : Cell) (t : ℕ) (changes : List Change) where
-  -- its place is that of one of the changes
-  pub placed : (reason : NotRevised) (why : Unrevised) → IsReasonNotRevised p c t changes reason → why ≡ unrevised_of reason → IsPlaced changes why
-  placed (Refused n fault) why is same = subst (IsPlaced changes) (sym same) (slice_get_within changes n is.first.change is.first.there)
-  placed NoMemory why is same = subst (IsPlaced changes) (sym same) tt
+-- its place is that of one of the changes
+pub placed : (changes : List Change) (reason : NotRevised) (why : Unrevised) → IsAtOneOf changes reason → why ≡ unrevised_of reason → IsPlaced changes why
+placed changes (Refused n fault) why is same = subst (IsPlaced changes) (sym same) is
+placed changes NoMemory why is same = subst (IsPlaced changes) (sym same) tt
 
-  module _ (prints : Revised) (description : List ℕ) (values : List (List ℕ)) where
-    refused_at : (reason : NotRevised) (outcome : Result Answer CommandFault) → IsReasonNotRevised p c t changes reason → IsUnrevised changes values (unrevised_of reason) outcome
-        → IsOrMemory (IsChangeRefused prints description changes values p c t) outcome
-    refused_at (Refused n fault) (Ok answer) is line = record { place = n; fault = fault; first = is; change = line.0; there = line.1; line = line.2.0; refused = line.2.1 }
-    refused_at (Refused n fault) (Err no_memory) is line = line.2
-    refused_at NoMemory outcome is no_memory = rw no_memory refl
+module _ (asked : AskedRevision) (description : List ℕ) (book : NameBook) (p : PlannedShop) (c : Cell) (t : ℕ) (es : List Event) where
+  refused_at : (reason : NotRevised) (outcome : Result Answer CommandFault) → IsReasonNoNextRun p c t es asked.changes (leaves_out asked.prints) reason
+      → IsUnrevised asked.changes asked.values (unrevised_of reason) outcome → IsOrMemory (IsChangeRefused asked description book p c t es) outcome
+  refused_at (Refused n fault) (Ok answer) is line = record { place = n; fault = fault; first = is; change = line.0; there = line.1; line = line.2.0; refused = line.2.1 }
+  refused_at (Refused n fault) (Err no_memory) is line = line.2
+  refused_at NoMemory outcome is no_memory = rw no_memory refl
 
-    -- what is answered where nothing is changed
-    pub refused_answered : (reason : NotRevised) (why : Unrevised) (outcome : Result Answer CommandFault) → IsReasonNotRevised p c t changes reason → why ≡ unrevised_of reason → IsUnrevised changes values why outcome
-        → IsOrMemory (IsChangeRefused prints description changes values p c t) outcome
-    refused_answered reason why outcome is same answered = refused_at reason outcome is (subst (λ (x : Unrevised). IsUnrevised changes values x outcome) same answered)
+  -- what is answered where nothing is changed
+  pub refused_answered : (reason : NotRevised) (why : Unrevised) (outcome : Result Answer CommandFault) → IsReasonNoNextRun p c t es asked.changes (leaves_out asked.prints) reason
+      → why ≡ unrevised_of reason → IsUnrevised asked.changes asked.values why outcome → IsOrMemory (IsChangeRefused asked description book p c t es) outcome
+  refused_answered reason why outcome is same answered = refused_at reason outcome is (subst (λ (x : Unrevised). IsUnrevised asked.changes asked.values x outcome) same answered)
 
 -- ---- the text of an instance
 

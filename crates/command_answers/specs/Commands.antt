@@ -34,8 +34,7 @@ use Rattle.command_answers.specs.LogLines.{IsLogLine}
 use Rattle.command_answers.specs.declared.rests.PlanAnswer.{PlanAnswer}
 use Rattle.command_answers.specs.Rests.{IsRestLine, job_asked}
 use Rattle.command_answers.specs.ImprovingRests.{IsBetterAnswer}
-use Rattle.plan_revise.specs.declared.change.Change.{Change}
-use Rattle.command_answers.specs.declared.revises.Revised.{Revised}
+use Rattle.command_answers.specs.Asked.{AskedRevision}
 use Rattle.command_answers.specs.Revising.{IsReviseAnswer}
 
 -- the file of an instance, the instance's name where that is a collection, and the file of a plan for it
@@ -183,16 +182,16 @@ module _ {W : Type 0} (gives : W → List ℕ → Result (List ℕ) CommandFault
   abbrev pub RunsDecide : Aim → RunPaths → W → Result Answer CommandFault → W → Type 0
   RunsDecide aim run = WithBoth run.inputs (λ p. IfFit run.log p (DecidesPlan aim run))
 
-  -- the log of a well-shaped plan is asked for, and then this comes of it; any other plan is answered by its first fault
-  abbrev pub WithLogOf : (PlannedShop → List ℕ → Result Answer CommandFault → Type 0) → List ℕ → PlannedShop → W → Result Answer CommandFault → W → Type 0
-  WithLogOf Comes path p = IfShaped p (Then (Asks gives path) (λ log. Concludes (Comes p log)))
-
   -- `audit` and `gantt`: both are read, then the names, and then the log
   abbrev pub RunsLog : LogAnswer → InputPaths → Option (List ℕ) → List ℕ → W → Result Answer CommandFault → W → Type 0
   RunsLog wanted inputs names log = WithBoth inputs (λ p. IfShaped p (WithNamesAndLog names log p (λ book. IsLogLine book wanted p)))
 
-  -- `revise`: both are read, then the log where the plan is well shaped, and what the changes make of them is answered
-  abbrev pub RunsRevise : Revised → Option ℕ → List Change → List (List ℕ) → InputPaths → List ℕ → W → Result Answer CommandFault → W → Type 0
-  RunsRevise prints at changes values inputs log =
+  -- the names are read, then the log, and what the changes make of a well-shaped plan is answered
+  abbrev pub RevisesShaped : AskedRevision → List ℕ → List ℕ → PlannedShop → W → Result Answer CommandFault → W → Type 0
+  RevisesShaped asked description log p = Then (ReadsNames gives asked.names p) (λ book. Then (Asks gives log) (λ text. Concludes (IsReviseAnswer asked description p book text)))
+
+  -- `revise`: both are read, then the names and the log where the plan is well shaped, and what the changes make of them is answered
+  abbrev pub RunsRevise : AskedRevision → InputPaths → List ℕ → W → Result Answer CommandFault → W → Type 0
+  RunsRevise asked inputs log =
       Then (ReadsInstance inputs.path inputs.name) (λ named. Then (ReadsPlan inputs.plan)
-      (λ plan. WithLogOf (λ p. IsReviseAnswer prints named.description.items at changes values p) log (record { shop = named.shop; plan = plan })))
+      (λ plan. (let p : PlannedShop = record { shop = named.shop; plan = plan } in IfShaped p (RevisesShaped asked named.description.items log p))))

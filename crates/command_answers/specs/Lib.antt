@@ -25,6 +25,9 @@ pub mod LogLines
 pub mod Rests
 pub mod Moves
 pub mod ImprovingRests
+pub mod InstanceTexts
+pub mod Asked
+pub mod Chapters
 pub mod Revising
 pub mod DecidingRests
 pub mod Commands

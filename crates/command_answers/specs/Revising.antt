@@ -1,32 +1,30 @@
 -- The answers of the command `revise`.
-use Rattle.std.specs.Prelude.{◌≡◌, ℕ, ◌<◌, ◌≤◌, nat_le, ◌&&◌, if◌then◌else◌, Bool, List, [], ◌∷◌, ◌++◌, ◌⊎◌, Option, Some, Result, Ok, Err, codes, get_or, length, slice_get}
+use Rattle.std.specs.Prelude.{◌≡◌, ℕ, ◌<◌, nat_le, ◌&&◌, if◌then◌else◌, is_some, Bool, List, [], ◌∷◌, ◌++◌, ◌⊎◌, Some, Result, Ok, Err, codes, get_or, length, slice_get}
 use Rattle.shop_base.specs.declared.node.Node.{Node}
-use Rattle.shop_base.specs.Shop.{JobShop}
 use Rattle.shop_base.specs.Plan.{PlannedShop}
 use Rattle.shop_base.specs.Cell.{Cell}
+use Rattle.shop_base.specs.Run.{Event}
 use Rattle.alt_graph.specs.Evidence.{IsCycle}
 use Rattle.alt_graph.specs.Solved.{HasCycle}
 use Rattle.text_lines.specs.Lines.{ended_lines}
-use Rattle.orlib_read.specs.Instance.{IsInstance}
-use Rattle.orlib_read.specs.Lines.{instance_lines, written_description}
-use Rattle.orlib_read.specs.declared.document.NotWritten.{NotWritten}
-use Rattle.orlib_read.specs.declared.document.NotWritten.TheVariants.{NotReadBack as NotRead, Memory as OutOfMemory}
-use Rattle.plan_text.specs.declared.plan_fault.PlanFault.TheVariants.{NotReadBack}
+use Rattle.cell_tables.specs.Events.{events_of}
+use Rattle.people_names.specs.NameBooks.{NameBook}
 use Rattle.plan_revise.specs.declared.change.Change.{Change}
-use Rattle.plan_revise.specs.declared.change.Change.TheVariants.{Until, Add, Scrap, Down}
+use Rattle.plan_revise.specs.declared.change.Change.TheVariants.{Until, Add, Route, Release, Budget, Scrap, Down}
 use Rattle.plan_revise.specs.declared.change.ChangeFault.{ChangeFault}
 use Rattle.plan_revise.specs.declared.change.NotRevised.{NotRevised}
 use Rattle.plan_revise.specs.declared.change.NotRevised.TheVariants.{Refused, Memory as NoMemory}
 use Rattle.plan_revise.specs.Names.{change_fault_name}
-use Rattle.plan_revise.specs.Revised.{IsRevised, IsRefusedAt}
+use Rattle.run_revising.specs.declared.next.NextRun.{NextRun}
+use Rattle.run_revising.specs.NextRuns.{IsNextRun, IsReasonNoNextRun}
 use Rattle.command_answers.specs.declared.answer.Answer.{Answer}
+use Rattle.command_answers.specs.declared.chapters.LogMisfit.{LogMisfit}
 use Rattle.command_answers.specs.declared.command_fault.CommandFault.{CommandFault}
-use Rattle.command_answers.specs.declared.command_fault.CommandFault.TheVariants.{Plan, Memory}
+use Rattle.command_answers.specs.declared.command_fault.CommandFault.TheVariants.{Memory}
 use Rattle.command_answers.specs.declared.command_fault.Unrevised.{Unrevised}
 use Rattle.command_answers.specs.declared.command_fault.Unrevised.TheVariants.{Refused as RefusedAt, Ends}
-use Rattle.command_answers.specs.declared.revises.Revised.{Revised}
-use Rattle.command_answers.specs.declared.revises.Revised.TheVariants.{PlanText, InstanceText}
-use Rattle.command_answers.specs.Documents.{IsDocumentAnswer}
+use Rattle.command_answers.specs.Asked.{AskedRevision}
+use Rattle.command_answers.specs.Chapters.{IsLogMisfit, IsMisfitLine, FitsLog, IsPrintedAs, leaves_out}
 use Rattle.command_answers.specs.ImprovingRests.{IsLineOfCycle}
 use Rattle.command_answers.specs.Rests.{RecordsRun, IsRunRefused}
 use Rattle.command_answers.specs.Steps.{IsOrMemory}
@@ -37,6 +35,9 @@ use Rattle.command_answers.specs.Steps.{IsOrMemory}
 abbrev pub flag_of : Change → List ℕ
 flag_of (Until machine to) = codes "--until "
 flag_of (Add route release budget) = codes "--add "
+flag_of (Route job words) = codes "--route "
+flag_of (Release job moment) = codes "--release "
+flag_of (Budget job moment) = codes "--budget "
 flag_of (Scrap job) = codes "--scrap "
 flag_of (Down machine) = codes "--down "
 
@@ -57,11 +58,6 @@ change_word change value = flag_of change ++ visible_part value
 abbrev pub change_refused_line : Change → List ℕ → ChangeFault → List ℕ
 change_refused_line change value fault = codes "change refused " ++ change_word change value ++ codes " " ++ change_fault_name fault ++ codes "\n"
 
--- the fault of a command where no instance is written
-abbrev pub unwritten_fault : NotWritten → CommandFault
-unwritten_fault OutOfMemory = Memory
-unwritten_fault NotRead = Plan NotReadBack
-
 -- why nothing is changed, of which `Memory` is a fault of the command
 abbrev pub unrevised_of : NotRevised → Unrevised
 unrevised_of (Refused place fault) = RefusedAt place fault
@@ -80,44 +76,26 @@ IsUnrevised changes values (Ends fault) outcome = outcome ≡ Err fault
 
 -- ---- what is printed
 
--- the text of an instance, which is read as this instance with the description that is written
-pub record IsInstanceText (description : List ℕ) (shop : JobShop) (answer : Answer) : Type 0 where
-  pub lines : answer.text.items ≡ instance_lines description shop
-  pub read_back : IsInstance (instance_lines description shop) (written_description description shop) shop
-  pub good : answer.status ≡ 0
+-- what is printed of a run and its plan
+abbrev pub IsPrinted : AskedRevision → List ℕ → NameBook → NextRun → Result Answer CommandFault → Type 0
+IsPrinted asked description book next = IsPrintedAs asked.prints description book (is_some asked.names) next
 
--- the lines of an instance aren't read as this instance
-abbrev pub IsUnread : List ℕ → JobShop → Type 0
-IsUnread description shop = IsInstance (instance_lines description shop) (written_description description shop) shop → ⊥
-
--- the text of an instance, without the description where that isn't read back; that this isn't either; or out of memory
-abbrev pub IsInstanceAnswer : List ℕ → JobShop → Result Answer CommandFault → Type 0
-IsInstanceAnswer description shop (Ok answer) = IsInstanceText description shop answer ⊎ (IsUnread description shop × IsInstanceText [] shop answer)
-IsInstanceAnswer description shop (Err Memory) = Unit {0}
-IsInstanceAnswer description shop (Err (Plan fault)) = (fault ≡ NotReadBack) × IsUnread description shop × IsUnread [] shop
-IsInstanceAnswer description shop (Err other) = ⊥
-
--- what is printed of a shop and its plan
-abbrev pub IsPrintedRevision : Revised → List ℕ → PlannedShop → Result Answer CommandFault → Type 0
-IsPrintedRevision PlanText description q outcome = IsDocumentAnswer q.plan 0 outcome
-IsPrintedRevision InstanceText description q outcome = IsInstanceAnswer description q.shop outcome
-
-module _ (prints : Revised) (description : List ℕ) (changes : List Change) (values : List (List ℕ)) (p : PlannedShop) (c : Cell) (t : ℕ) where
+module _ (asked : AskedRevision) (description : List ℕ) (book : NameBook) (p : PlannedShop) (c : Cell) (t : ℕ) (es : List Event) where
   -- the line of the first change that can't be, with the value of its word
   pub record IsChangeRefused (answer : Answer) : Type 0 where
     pub place : ℕ
     pub fault : ChangeFault
-    pub first : IsRefusedAt p c t changes place fault
+    pub first : IsReasonNoNextRun p c t es asked.changes (leaves_out asked.prints) (Refused place fault)
     pub change : Change
-    pub there : slice_get changes place ≡ Some change
-    pub line : answer.text.items ≡ change_refused_line change (get_or values place []) fault
+    pub there : slice_get asked.changes place ≡ Some change
+    pub line : answer.text.items ≡ change_refused_line change (get_or asked.values place []) fault
     pub refused : answer.status ≡ 1
 
-  -- what is printed of the shop and the plan that the changes make
+  -- what is printed of the run and the plan that the changes make
   pub record IsRevisedText (outcome : Result Answer CommandFault) : Type 0 where
-    pub revised : PlannedShop
-    pub is : IsRevised p c t changes revised
-    pub printed : IsPrintedRevision prints description revised outcome
+    pub next : NextRun
+    pub is : IsNextRun p c t es asked.changes (leaves_out asked.prints) next
+    pub printed : IsPrinted asked description book next outcome
 
   -- all changes are made, or the first that can't be is printed
   abbrev pub IsChanged : Result Answer CommandFault → Type 0
@@ -134,7 +112,16 @@ module _ (prints : Revised) (description : List ℕ) (changes : List Change) (va
   IsRevisedRest outcome = IsOrMemory IsCycleAnswer outcome ⊎ ((HasCycle p → ⊥) × IsChanged outcome)
 
 -- what is answered of a log: what is changed from the rest of the run that its whole lines record on, or why there is none
-abbrev pub IsReviseAnswer : Revised → List ℕ → Option ℕ → List Change → List (List ℕ) → PlannedShop → List ℕ → Result Answer CommandFault → Type 0
-IsReviseAnswer prints description at changes values p log outcome =
-    RecordsRun (λ c entries t. IsRevisedRest prints description changes values p c t outcome) at (ended_lines log) p
-    ⊎ IsOrMemory (IsRunRefused at (ended_lines log) p) outcome
+abbrev pub IsRunRevised : AskedRevision → List ℕ → NameBook → PlannedShop → List ℕ → Result Answer CommandFault → Type 0
+IsRunRevised asked description book p log outcome =
+    RecordsRun (λ c entries t. IsRevisedRest asked description book p c t (events_of entries) outcome) asked.at (ended_lines log) p
+    ⊎ IsOrMemory (IsRunRefused asked.at (ended_lines log) p) outcome
+
+-- the line of what is wrong with a log that is to be told anew
+abbrev pub IsMisfitAnswer : AskedRevision → PlannedShop → List (List ℕ) → Result Answer CommandFault → Type 0
+IsMisfitAnswer asked p lines outcome = (misfit : LogMisfit) × IsLogMisfit asked p lines misfit × IsOrMemory (IsMisfitLine misfit) outcome
+
+-- so where the log fits; else the line of what is wrong with it; or memory runs out before that is known
+abbrev pub IsReviseAnswer : AskedRevision → List ℕ → PlannedShop → NameBook → List ℕ → Result Answer CommandFault → Type 0
+IsReviseAnswer asked description p book log outcome =
+    IsMisfitAnswer asked p (ended_lines log) outcome ⊎ (FitsLog asked p (ended_lines log) × IsRunRevised asked description book p log outcome) ⊎ (outcome ≡ Err Memory)

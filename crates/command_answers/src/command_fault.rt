@@ -8,7 +8,8 @@ ghost use Rattle.command_answers.specs.Search.{search_command_fault};
 ghost use Rattle.command_answers.specs.ImprovingRests.{improve_command_fault};
 ghost use Rattle.command_answers.specs.LogLines.{audit_command_fault};
 ghost use Rattle.command_answers.specs.Moves.{moves_command_fault};
-ghost use Rattle.command_answers.specs.Revising.{unrevised_of, unwritten_fault};
+ghost use Rattle.command_answers.specs.InstanceTexts.{unwritten_fault};
+ghost use Rattle.command_answers.specs.Revising.{unrevised_of};
 ghost use Rattle.command_answers.specs.Statuses.{command_status_of};
 
 use cell_control::RestFault;

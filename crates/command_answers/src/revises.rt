@@ -1,55 +1,85 @@
 //! The command `revise`.
 
-ghost use Rattle.std.specs.Prelude.{◌≡◌, ◌≤◌, ◌++◌, [], IfOk, IfSome, OnOk, map, get_or};
+ghost use Rattle.std.specs.Prelude.{◌≡◌, ◌≤◌, ◌++◌, [], IfOk, IfSome, OnOk, map, get_or, is_some};
 ghost use Rattle.shop_base.specs.declared.limits.TheConstants.{MAX_MOMENT};
+ghost use Rattle.cell_tables.specs.Events.{events_of};
+ghost use Rattle.run_log.specs.Audits.{IsReplayed};
 ghost use Rattle.plan_explain.specs.Known.{IsKnownVerdict};
-ghost use Rattle.command_answers.specs.Commands.{RunsRevise, WithLogOf};
-ghost use Rattle.command_answers.specs.Revising.{IsChanged, IsInstanceAnswer, IsPrintedRevision, IsReviseAnswer, IsPlaced};
-ghost use Rattle.command_answers.specs.Revising.{IsRevisedRest, IsUnrevised, change_refused_line};
+ghost use Rattle.command_answers.specs.Asked.{asked};
+ghost use Rattle.command_answers.specs.Chapters.{FitsLog, is_log, leaves_out};
+ghost use Rattle.command_answers.specs.Commands.{RunsRevise, RevisesShaped, IfShaped};
+ghost use Rattle.command_answers.specs.Naming.{ReadsNames};
+ghost use Rattle.command_answers.specs.Revising.{IsChanged, IsPrinted, IsReviseAnswer, IsPlaced};
+ghost use Rattle.command_answers.specs.Revising.{IsRevisedRest, IsRunRevised, IsUnrevised, change_refused_line};
 ghost use Rattle.command_answers.specs.Revising.{flag_of, is_visible, visible_part};
-ghost use Rattle.command_answers.specs.Steps.{Concludes, IsOrMemory, Then};
+ghost use Rattle.command_answers.specs.Steps.{Concludes, Then};
 ghost use Rattle.command_answers.specs.Texts.{Asks};
 
 use crate::answer::{Answer, Answered, GOOD, REFUSED};
-use crate::command_fault::{CommandFault, Unrevised};
+use crate::chapters::{chapter_answer, misfit_answer, misfit_of};
+use crate::command_fault::Unrevised;
 use crate::inputs::{InputPaths, ParsedInputs};
+use crate::instance_texts::instance_answer;
 use crate::lines::document_answer;
+use crate::naming::names_and_log;
 use crate::parsing::{instance, plan};
 use crate::rest_improves::cycle_answer;
 use crate::rests::run_fault_answer;
 use crate::shapes::not_shaped_answer;
 use crate::texts::Texts;
-use cell_tables::Rest;
-use orlib_read::{Named, NotWritten, instance_document};
-use plan_revise::{Change, ChangeFault, revise};
+use orlib_read::Named;
+use people_names::Names;
+use plan_revise::{Change, ChangeFault};
 use plan_verifier::{Judged, Why, judge};
-use run_log::rest_at;
-use shop_base::{Moment, Shaped, Shop};
+use run_log::{LoggedRest, rest_at};
+use run_revising::{NextRun, next_run};
+use shop_base::{Moment, Shaped};
 use std::alloc::{AllocError, Global};
 
-/// What is printed of a shop and its plan that are changed.
+/// What is printed of a run and its plan that are revised.
 #[derive(Clone, Copy, Debug, PartialEq, Eq)]
 pub enum Revised {
     /// The text of the plan.
     PlanText,
     /// The text of the instance.
     InstanceText,
+    /// Both, the names and the run as one log, without the jobs that are over or with all jobs. A log whose last line of
+    /// a plan is another one's is refused, unless the run is handed over.
+    LogText { leaves_out: bool, hands_over: bool },
+}
+
+impl Revised {
+    /// Whether the jobs that are over are left out.
+    fn leaves_out(self) -> bool
+        ensures { result ≡ leaves_out self }
+    {
+        match self {
+            Revised::PlanText | Revised::InstanceText => false,
+            Revised::LogText {
+                leaves_out,
+                hands_over: _,
+            } => leaves_out,
+        }
+    }
 }
 
 /// What is asked for: the present moment, if another one than the log's last is given, the changes in the order in
-/// which they are made, the value of each one's word, and what is printed.
+/// which they are made, the value of each one's word, what is printed, and the file of names, if there is one.
 #[derive(Clone, Copy)]
 pub struct Revision<'a> {
     pub at: Option<Moment>,
     pub changes: &'a [Change<'a>],
     pub values: &'a [&'a str],
     pub prints: Revised,
+    pub names: Option<&'a str>,
 }
 
-/// The text of the plan of a file, or of the instance of another, as it has to be for the rest of the run in the log of
-/// a third, where something has changed. What comes after the log's last line feed isn't looked at. A log that records
-/// no run of the plan is answered by its first bad line, a present moment before the log's last one by `log past L`, a
-/// plan with a cycle by the line of `check`, and a change that can't be by `change refused WORD NAME`.
+/// The text of the plan of a file, or of the instance of another, or both as one log, as they have to be for the rest of
+/// the run in the log of a third, where something has changed. What comes after the log's last line feed isn't looked at.
+/// A log with names where none are given is answered by `names not given`, and one of another plan by `log of another
+/// plan P shop S`, if a log is asked for. A log that records no run of the plan is answered by its first bad line, a
+/// present moment before the log's last one by `log past L`, a plan with a cycle by the line of `check`, and a change
+/// that can't be by `change refused WORD NAME`.
 pub fn revise_answer<T: Texts>(
     alloc: Global,
     texts: &mut T,
@@ -58,8 +88,7 @@ pub fn revise_answer<T: Texts>(
     wanted: Revision<'_>,
 ) -> Answered
     requires { IfSome wanted.at (λ present. present ≤ MAX_MOMENT) }
-    ensures { RunsRevise T.gives wanted.entry.prints wanted.entry.at wanted.entry.changes.now
-        (map (λ value. value.now) wanted.entry.values.now) inputs.now log.now texts.old result texts.new }
+    ensures { RunsRevise T.gives (asked wanted.entry) inputs.now log.now texts.old result texts.new }
 {
     let named = instance(alloc, texts, inputs.instance, inputs.name)?;
     let plan = plan(alloc, texts, inputs.plan)?;
@@ -84,9 +113,8 @@ fn parsed_revised<T: Texts>(
     wanted: Revision<'_>,
 ) -> Answered
     requires { IfSome wanted.at (λ present. present ≤ MAX_MOMENT) }
-    ensures { WithLogOf T.gives (IsReviseAnswer wanted.entry.prints description.now wanted.entry.at
-        wanted.entry.changes.now (map (λ value. value.now) wanted.entry.values.now))
-        log.now parsed texts.old result texts.new }
+    ensures { IfShaped T.gives parsed (RevisesShaped T.gives (asked wanted.entry) description.now log.now parsed)
+        texts.old result texts.new }
 {
     match parsed.shaped() {
         Ok(shaped) => shaped_revised(alloc, texts, shaped, description, log, wanted),
@@ -94,7 +122,7 @@ fn parsed_revised<T: Texts>(
     }
 }
 
-/// What is answered of a shop and a well-shaped plan, by the log of a file.
+/// What is answered of a shop and a well-shaped plan, by the names of a file and the log of another.
 fn shaped_revised<T: Texts>(
     alloc: Global,
     texts: &mut T,
@@ -104,14 +132,12 @@ fn shaped_revised<T: Texts>(
     wanted: Revision<'_>,
 ) -> Answered
     requires { IfSome wanted.at (λ present. present ≤ MAX_MOMENT) }
-    ensures { Then (Asks T.gives log.now) (λ text. Concludes (IsReviseAnswer wanted.entry.prints description.now
-        wanted.entry.at wanted.entry.changes.now (map (λ value. value.now) wanted.entry.values.now) shaped text))
-        texts.old result texts.new }
+    ensures { RevisesShaped T.gives (asked wanted.entry) description.now log.now shaped texts.old result texts.new }
 {
-    match texts.text(alloc, log) {
-        Ok(text) => {
-            let answer = log_revised(alloc, shaped, description, &text, wanted);
-            drop(text);
+    match names_and_log(alloc, texts, &shaped, wanted.names, log) {
+        Ok(read) => {
+            let answer = log_revised(alloc, shaped, description, &read.names, &read.log, wanted);
+            drop(read);
             answer
         }
         Err(fault) => {
@@ -121,21 +147,39 @@ fn shaped_revised<T: Texts>(
     }
 }
 
-/// What is answered for the rest of the run in a log.
+/// What is answered of the log, if it is one that fits.
 fn log_revised(
     alloc: Global,
     shaped: Shaped,
     description: &[u8],
+    names: &Names,
     log: &[u8],
     wanted: Revision<'_>,
 ) -> Answered
     requires { IfSome wanted.at (λ present. present ≤ MAX_MOMENT) }
-    ensures { IsReviseAnswer wanted.entry.prints description.now wanted.entry.at wanted.entry.changes.now
-        (map (λ value. value.now) wanted.entry.values.now) shaped log.now result }
+    ensures { IsReviseAnswer (asked wanted.entry) description.now shaped names.now log.now result }
+{
+    match misfit_of(alloc, &shaped, log, wanted)? {
+        Some(misfit) => Ok(misfit_answer(alloc, misfit)?),
+        None => run_revised(alloc, shaped, description, names, log, wanted),
+    }
+}
+
+/// What is answered for the rest of the run in a log.
+fn run_revised(
+    alloc: Global,
+    shaped: Shaped,
+    description: &[u8],
+    names: &Names,
+    log: &[u8],
+    wanted: Revision<'_>,
+) -> Answered
+    requires { IfSome wanted.at (λ present. present ≤ MAX_MOMENT) }
+    ensures { IsRunRevised (asked wanted.entry) description.now names.now shaped log.now result }
 {
     match rest_at(alloc, shaped, log, wanted.at)? {
         Ok(run) => {
-            let answer = rest_revised(alloc, &run.rest, description, wanted);
+            let answer = rest_revised(alloc, &run, description, names, wanted);
             drop(run);
             answer
         }
@@ -146,15 +190,17 @@ fn log_revised(
 /// What is answered for the rest of a run, if the plan has no cycle.
 fn rest_revised(
     alloc: Global,
-    rest: &Rest<Shaped>,
+    run: &LoggedRest<Shaped>,
     description: &[u8],
+    names: &Names,
     wanted: Revision<'_>,
 ) -> Answered
-    ensures { IsRevisedRest wanted.entry.prints description.now wanted.entry.changes.now
-        (map (λ value. value.now) wanted.entry.values.now) rest.now.plan rest.now.cell rest.now.present result }
+    requires { IsReplayed run.now.rest.plan run.now.rest.cell run.now.entries.items }
+    ensures { IsRevisedRest (asked wanted.entry) description.now names.now run.now.rest.plan
+        run.now.rest.cell run.now.rest.present (events_of run.now.entries.items) result }
 {
-    let verdict = judge(alloc, rest)?;
-    let answer = verdict_revised(alloc, rest, &verdict, description, wanted);
+    let verdict = judge(alloc, &run.rest)?;
+    let answer = verdict_revised(alloc, run, &verdict, description, names, wanted);
     drop(verdict);
     answer
 }
@@ -162,31 +208,41 @@ fn rest_revised(
 /// What is answered by the verdict on the rest.
 fn verdict_revised(
     alloc: Global,
-    rest: &Rest<Shaped>,
+    run: &LoggedRest<Shaped>,
     verdict: &Judged,
     description: &[u8],
+    names: &Names,
     wanted: Revision<'_>,
 ) -> Answered
-    requires { IsKnownVerdict rest.now.plan rest.now.cell rest.now.present verdict.now }
-    ensures { IsRevisedRest wanted.entry.prints description.now wanted.entry.changes.now
-        (map (λ value. value.now) wanted.entry.values.now) rest.now.plan rest.now.cell rest.now.present result }
+    requires replayed { IsReplayed run.now.rest.plan run.now.rest.cell run.now.entries.items }
+    requires judged { let r = run.now.rest in IsKnownVerdict r.plan r.cell r.present verdict.now }
+    ensures { IsRevisedRest (asked wanted.entry) description.now names.now run.now.rest.plan
+        run.now.rest.cell run.now.rest.present (events_of run.now.entries.items) result }
 {
     match verdict {
         Judged::Refused(Why::Cycle(nodes)) => Ok(cycle_answer(alloc, nodes)?),
-        Judged::Refused(Why::Late { .. }) => changed(alloc, rest, description, wanted),
-        Judged::Accepted(_) => changed(alloc, rest, description, wanted),
+        Judged::Refused(Why::Late { .. }) => changed(alloc, run, description, names, wanted),
+        Judged::Accepted(_) => changed(alloc, run, description, names, wanted),
     }
 }
 
 /// What is printed once the changes are made, or the line of the first that can't be.
-fn changed(alloc: Global, rest: &Rest<Shaped>, description: &[u8], wanted: Revision<'_>) -> Answered
-    ensures { IsChanged wanted.entry.prints description.now wanted.entry.changes.now
-        (map (λ value. value.now) wanted.entry.values.now) rest.now.plan rest.now.cell rest.now.present result }
+fn changed(
+    alloc: Global,
+    run: &LoggedRest<Shaped>,
+    description: &[u8],
+    names: &Names,
+    wanted: Revision<'_>,
+) -> Answered
+    requires { IsReplayed run.now.rest.plan run.now.rest.cell run.now.entries.items }
+    ensures { IsChanged (asked wanted.entry) description.now names.now run.now.rest.plan
+        run.now.rest.cell run.now.rest.present (events_of run.now.entries.items) result }
 {
-    match revise(alloc, rest, wanted.changes) {
-        Ok(shaped) => {
-            let answer = printed(alloc, &shaped, description, wanted.prints);
-            drop(shaped);
+    let leaves_out = wanted.prints.leaves_out();
+    match next_run(alloc, &run.rest, &run.entries, leaves_out, wanted.changes) {
+        Ok(next) => {
+            let answer = printed(alloc, &next, description, names, wanted);
+            drop(next);
             answer
         }
         Err(cause) => unrevised(alloc, Unrevised::from(cause), wanted),
@@ -207,34 +263,23 @@ fn unrevised(alloc: Global, why: Unrevised, wanted: Revision<'_>) -> Answered
     }
 }
 
-/// What is printed of a shop and its plan.
-fn printed(alloc: Global, shaped: &Shaped, description: &[u8], prints: Revised) -> Answered
-    ensures { IsPrintedRevision prints description.now shaped.now result }
+/// What is printed of a run and its plan.
+fn printed(
+    alloc: Global,
+    next: &NextRun,
+    description: &[u8],
+    names: &Names,
+    wanted: Revision<'_>,
+) -> Answered
+    ensures { IsPrinted (asked wanted.entry) description.now names.now next.now result }
 {
-    match prints {
-        Revised::PlanText => document_answer(alloc, shaped.plan(), GOOD),
-        Revised::InstanceText => instance_answer(alloc, description, shaped.shop()),
-    }
-}
-
-/// The text of an instance, without its description where that isn't read back.
-fn instance_answer(alloc: Global, description: &[u8], shop: &Shop) -> Answered
-    ensures { IsInstanceAnswer description.now shop.now result }
-{
-    match instance_document(alloc, description, shop) {
-        Ok(text) => Ok(Answer { text, status: GOOD }),
-        Err(NotWritten::NotReadBack) => undescribed_answer(alloc, shop),
-        Err(fault) => Err(CommandFault::from(fault)),
-    }
-}
-
-/// The text of an instance without a description.
-fn undescribed_answer(alloc: Global, shop: &Shop) -> Answered
-    ensures { IsInstanceAnswer [] shop.now result }
-{
-    match instance_document(alloc, b"", shop) {
-        Ok(text) => Ok(Answer { text, status: GOOD }),
-        Err(fault) => Err(CommandFault::from(fault)),
+    match wanted.prints {
+        Revised::PlanText => document_answer(alloc, next.shaped.plan(), GOOD),
+        Revised::InstanceText => instance_answer(alloc, description, next.shaped.shop()),
+        Revised::LogText {
+            leaves_out: _,
+            hands_over: _,
+        } => chapter_answer(alloc, next, description, names, wanted.names.is_some()),
     }
 }
 
@@ -279,6 +324,9 @@ fn flag_of(change: Change<'_>) -> &'static str
             release: _,
             budget: _,
         } => "--add ",
+        Change::Route { job: _, route: _ } => "--route ",
+        Change::Release { job: _, release: _ } => "--release ",
+        Change::Budget { job: _, budget: _ } => "--budget ",
         Change::Scrap { job: _ } => "--scrap ",
         Change::Down { machine: _ } => "--down ",
     }

@@ -1,5 +1,5 @@
 -- The status of an answer is that of a good one or of one that refuses.
-use Rattle.std.proofs.Common.{◌≡◌, ℕ, ◌≤◌, List, [], ◌∷◌, Bool, true, false, Option, None, Some, Result, Ok, Err, inl, inr, subst, sym, arith}
+use Rattle.std.proofs.Common.{◌≡◌, ℕ, ◌≤◌, List, [], ◌∷◌, Bool, true, false, Option, None, Some, Result, Ok, Err, inl, inr, is_some, subst, sym, arith}
 use Rattle.plan_verifier.specs.Accepted.{VerifiedPlan}
 use Rattle.plan_verifier.specs.declared.verdict.Verdict.{Verdict}
 use Rattle.plan_verifier.specs.declared.verdict.Verdict.TheVariants.{Accepted, Refused}
@@ -25,10 +25,15 @@ use Rattle.cell_tables.specs.Events.{events_of}
 use Rattle.plan_revise.specs.declared.change.Change.{Change}
 use Rattle.command_words.specs.declared.words.changes.AskedChange.{AskedChange}
 use Rattle.command_answers.specs.declared.revises.Revised.{Revised}
-use Rattle.command_answers.specs.declared.revises.Revised.TheVariants.{PlanText, InstanceText}
+use Rattle.command_answers.specs.declared.revises.Revised.TheVariants.{PlanText, InstanceText, LogText}
 use Rattle.command_answers.specs.Documents.{IsDocumentAnswer}
-use Rattle.command_answers.specs.Revising.{IsInstanceAnswer, IsPrintedRevision, IsReviseAnswer, IsRevisedRest}
-use Rattle.command_run.specs.Revisions.{Revises, printed_for, values_asked}
+use Rattle.run_revising.specs.declared.next.NextRun.{NextRun}
+use Rattle.command_answers.specs.Asked.{AskedRevision}
+use Rattle.command_answers.specs.Chapters.{IsChapterAnswer, IsMisfitLine, IsPrintedAs}
+use Rattle.command_answers.specs.InstanceTexts.{IsInstanceAnswer}
+use Rattle.command_answers.specs.Revising.{IsReviseAnswer, IsRevisedRest, IsRunRevised}
+use Rattle.command_words.specs.declared.words.printed.Prints.{Prints}
+use Rattle.command_run.specs.Revisions.{Revises, revision_asked}
 use Rattle.byte_streams.specs.declared.drive_fault.DriveFault.{DriveFault}
 use Rattle.cell_drive.specs.declared.protocol.Protocol.{Protocol}
 use Rattle.cell_drive.specs.declared.resume_fault.ResumeFault.{ResumeFault}
@@ -71,7 +76,7 @@ use Rattle.command_answers.specs.Rests.{IsPastLine, IsRunRefused, IsRestLine, jo
 use Rattle.command_answers.specs.declared.pictures.Drawn.{Drawn}
 use Rattle.command_answers.specs.declared.pictures.Drawn.TheVariants.{Picture, Line as LineDrawn}
 use Rattle.command_answers.specs.Pictures.{IsLineAlone, IsLogDrawn, IsRestDrawing, IsRestDrawn, IsVerdictDrawn}
-use Rattle.command_answers.specs.Commands.{AsksOfRun, BettersPlan, DecidesPlan, IfFit, IfShaped, IfShapedBy, IfThere, IfThereBy, InputPaths, Itself, RunPaths, RunsLog, RunsRest, WithBoth, WithLogOf, WithNames, WithNamesAndRun, WithRun, WithSoundNames}
+use Rattle.command_answers.specs.Commands.{AsksOfRun, BettersPlan, DecidesPlan, IfFit, IfShaped, IfShapedBy, IfThere, IfThereBy, InputPaths, Itself, RunPaths, RevisesShaped, RunsLog, RunsRest, WithBoth, WithNames, WithNamesAndRun, WithRun, WithSoundNames}
 use Rattle.command_answers.specs.Cells.{IsCellLine, AfterPlan, LoadsEach}
 use Rattle.command_answers.specs.Digests.{IsDigestAnswer}
 use Rattle.command_answers.specs.Margins.{IsMarginAnswer}
@@ -228,20 +233,32 @@ low_document : (plan : ShopPlan) (outcome : Result Answer CommandFault) → IsDo
 low_document plan (Ok answer) text = zero_low answer.status text.ends
 low_document plan (Err fault) is = tt
 
-low_printed : (prints : Revised) (description : List ℕ) (q : PlannedShop) (outcome : Result Answer CommandFault) → IsPrintedRevision prints description q outcome → IsLow outcome
-low_printed PlanText description q outcome is = low_document q.plan outcome is
-low_printed InstanceText description q outcome is = low_instance description q.shop outcome is
+low_chapter : (description : List ℕ) (book : NameBook) (named : Bool) (next : NextRun) (outcome : Result Answer CommandFault) → IsChapterAnswer description book named next outcome → IsLow outcome
+low_chapter description book named next (Ok answer) text = zero_low answer.status text.good
+low_chapter description book named next (Err fault) is = tt
 
-low_revised : (prints : Revised) (description : List ℕ) (at : Option ℕ) (changes : List Change) (values : List (List ℕ)) (p : PlannedShop) (log : List ℕ) (outcome : Result Answer CommandFault)
-    → IsReviseAnswer prints description at changes values p log outcome → IsLow outcome
-low_revised prints description at changes values p log outcome (inr refused) =
-    low_or (IsRunRefused at (ended_lines log) p) outcome (λ answer line. low_run_refused at (ended_lines log) p answer line) refused
-low_revised prints description at changes values p log outcome (inl rest) = go rest.comes
+low_printed : (prints : Revised) (description : List ℕ) (book : NameBook) (named : Bool) (next : NextRun) (outcome : Result Answer CommandFault)
+    → IsPrintedAs prints description book named next outcome → IsLow outcome
+low_printed PlanText description book named next outcome is = low_document next.shaped.plan outcome is
+low_printed InstanceText description book named next outcome is = low_instance description next.shaped.shop outcome is
+low_printed (LogText leaves_out hands_over) description book named next outcome is = low_chapter description book named next outcome is
+
+low_run_revised : (asked : AskedRevision) (description : List ℕ) (book : NameBook) (p : PlannedShop) (log : List ℕ) (outcome : Result Answer CommandFault)
+    → IsRunRevised asked description book p log outcome → IsLow outcome
+low_run_revised asked description book p log outcome (inr refused) =
+    low_or (IsRunRefused asked.at (ended_lines log) p) outcome (λ answer line. low_run_refused asked.at (ended_lines log) p answer line) refused
+low_run_revised asked description book p log outcome (inl rest) = go rest.comes
   where
-    go : IsRevisedRest prints description changes values p rest.cell rest.present outcome → IsLow outcome
+    go : IsRevisedRest asked description book p rest.cell rest.present (events_of rest.entries) outcome → IsLow outcome
     go (inl cycle) = low_or _ outcome (λ answer line. one_low answer.status line.line.1) cycle
-    go (inr (none, inl text)) = low_printed prints description text.revised outcome text.printed
+    go (inr (none, inl text)) = low_printed asked.prints description book (is_some asked.names) text.next outcome text.printed
     go (inr (none, inr refused)) = low_or _ outcome (λ answer line. one_low answer.status line.refused) refused
+
+low_revised : (asked : AskedRevision) (description : List ℕ) (p : PlannedShop) (book : NameBook) (log : List ℕ) (outcome : Result Answer CommandFault)
+    → IsReviseAnswer asked description p book log outcome → IsLow outcome
+low_revised asked description p book log outcome (inl (misfit, is, line)) = low_or (IsMisfitLine misfit) outcome (λ answer said. one_low answer.status said.1) line
+low_revised asked description p book log outcome (inr (inl (fits, is))) = low_run_revised asked description book p log outcome is
+low_revised asked description p book log outcome (inr (inr no_memory)) = subst IsLow (sym no_memory) tt
 
 pub low_line_of : (loaded : Loaded) (answer : Answer) → IsLineOf loaded answer → answer.status ≤ 1
 low_line_of (NotShaped fault) answer is = one_low answer.status is.refused
@@ -426,12 +443,6 @@ module _ {W : Type 0} (gives : W → List ℕ → Result (List ℕ) CommandFault
       → ((p : PlannedShop) (mid : W) → next p mid outcome after → IsLow outcome) → WithBoth gives inputs next texts outcome after → IsLow outcome
   low_both inputs next texts outcome after each run = held IsLow _ next texts outcome after low_failed each run
 
-  low_with_log_of : (Comes : PlannedShop → List ℕ → Result Answer CommandFault → Type 0) → ((p : PlannedShop) (text : List ℕ) (outcome : Result Answer CommandFault) → Comes p text outcome → IsLow outcome)
-      → (log : List ℕ) (p : PlannedShop) (mid : W) (outcome : Result Answer CommandFault) (after : W) → WithLogOf gives Comes log p mid outcome after → IsLow outcome
-  low_with_log_of Comes each log p mid outcome after (inl (shaped, run)) =
-      held IsLow _ (λ text. Concludes (Comes p text)) mid outcome after low_failed (λ text later on. each p text outcome on.0) run
-  low_with_log_of Comes each log p mid outcome after (inr answered) = low_or (IsNotShapedLine p) outcome (low_not_shaped p) answered.0
-
   -- what comes of a plan that is well shaped
   low_if_shaped : (next : W → Result Answer CommandFault → W → Type 0) (p : PlannedShop) (mid : W) (outcome : Result Answer CommandFault) (after : W)
       → (next mid outcome after → IsLow outcome) → IfShaped gives p next mid outcome after → IsLow outcome
@@ -503,14 +514,22 @@ module _ {W : Type 0} (gives : W → List ℕ → Result (List ℕ) CommandFault
       (low_better (AsksOne rounds) rounds run.at (ordered p) run.log mid outcome after) on) runs
   low_improves rounds run texts outcome after (inr no_memory) = subst IsLow (sym no_memory.0) tt
 
-  low_revises : (file : Bool) (at : Option ℕ) (asked : List AskedChange) (inputs : InputPaths) (log : List ℕ) (texts : W) (outcome : Result Answer CommandFault) (after : W)
-      → Revises gives file at asked inputs log texts outcome after → IsLow outcome
-  low_revises file at asked inputs log texts outcome after (inl run) =
+  low_revises_shaped : (asked : AskedRevision) (description log : List ℕ) (p : PlannedShop) (mid : W) (outcome : Result Answer CommandFault) (after : W)
+      → RevisesShaped gives asked description log p mid outcome after → IsLow outcome
+  low_revises_shaped asked description log p mid outcome after run =
+      held IsLow _ _ mid outcome after low_failed
+      (λ book later on. held IsLow _ (λ text. Concludes (IsReviseAnswer asked description p book text)) later outcome after low_failed
+      (λ text last is. low_revised asked description p book text outcome is.0) on) run
+
+  low_revises : (prints : Prints) (names : Option (List ℕ)) (at : Option ℕ) (changes : List AskedChange) (inputs : InputPaths) (log : List ℕ) (texts : W) (outcome : Result Answer CommandFault) (after : W)
+      → Revises gives prints names at changes inputs log texts outcome after → IsLow outcome
+  low_revises prints names at changes inputs log texts outcome after (inl run) =
+      let asked : AskedRevision = revision_asked prints names at changes run.changes in
       held IsLow _ _ texts outcome after low_failed
       (λ named mid on. held IsLow _ _ mid outcome after low_failed
-      (λ plan later goes. low_with_log_of (λ p. IsReviseAnswer (printed_for file) named.description.items at run.changes (values_asked asked) p)
-      (λ p. low_revised (printed_for file) named.description.items at run.changes (values_asked asked) p) log (record { shop = named.shop; plan = plan }) later outcome after goes) on) run.runs
-  low_revises file at asked inputs log texts outcome after (inr no_memory) = subst IsLow (sym no_memory.0) tt
+      (λ plan later goes. low_if_shaped (RevisesShaped gives asked named.description.items log (record { shop = named.shop; plan = plan })) (record { shop = named.shop; plan = plan }) later outcome after
+      (low_revises_shaped asked named.description.items log (record { shop = named.shop; plan = plan }) later outcome after) goes) on) run.runs
+  low_revises prints names at changes inputs log texts outcome after (inr no_memory) = subst IsLow (sym no_memory.0) tt
 
   -- what comes of a plan whose numbers are sound, with names
   low_sound : (Comes : NameBook → Result Answer CommandFault → Type 0) (names : Option (List ℕ)) (p : PlannedShop) (mid : W) (outcome : Result Answer CommandFault) (after : W)
@@ -563,7 +582,7 @@ module _ {W : Type 0} (gives : W → List ℕ → Result (List ℕ) CommandFault
       low_both (inputs_in chosen) (λ p. IfFit gives (log_in chosen) p (DecidesPlan gives (aim_in chosen) (run_in chosen))) texts outcome texts_after
       (λ p mid on. low_fit (aim_in chosen) (run_in chosen) p (log_in chosen) mid outcome texts_after on) run.0
   low Improve chosen texts before outcome texts_after after run = low_improves chosen.rounds (run_in chosen) texts outcome texts_after run.0
-  low Revise chosen texts before outcome texts_after after run = low_revises chosen.file chosen.at chosen.changes.items (inputs_in chosen) (file_at chosen 2) texts outcome texts_after run.0
+  low Revise chosen texts before outcome texts_after after run = low_revises chosen.prints (names_file chosen) chosen.at chosen.changes.items (inputs_in chosen) (file_at chosen 2) texts outcome texts_after run.0
   low Drive chosen texts before outcome texts_after after run = low_drives (protocol_in chosen) run.loaded before after outcome run.drives
   low Resume chosen texts before outcome texts_after after run = low_resumes (protocol_in chosen) chosen.at _ run.shaped run.texts_mid before outcome texts_after after run.resumes
   low Hub chosen texts before outcome texts_after after run =

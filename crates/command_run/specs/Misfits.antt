@@ -1,6 +1,5 @@
 -- Why a log isn't driven as the words of `drive --log` ask, and the line that says so.
-use Rattle.std.specs.Prelude.{◌≡◌, ◌≢◌, ◌⊎◌, ℕ, List, ◌++◌, codes, Result}
-use Rattle.event_lines.specs.RunDigits.{digits_words}
+use Rattle.std.specs.Prelude.{◌≡◌, ◌≢◌, ◌⊎◌, ℕ, List, codes, Result}
 use Rattle.event_lines.specs.declared.run_digits.RunDigits.{RunDigits}
 use Rattle.run_journal.specs.declared.log_run.LogRun.{LogRun}
 use Rattle.run_journal.specs.declared.log_run.LogRun.TheVariants.{Unbegun, Named}
@@ -8,6 +7,7 @@ use Rattle.command_words.specs.declared.words.log_start.LogStart.{LogStart}
 use Rattle.command_words.specs.declared.words.log_start.LogStart.TheVariants.{Any, New, Continue, HandOver}
 use Rattle.command_answers.specs.declared.answer.Answer.{Answer}
 use Rattle.command_answers.specs.declared.command_fault.CommandFault.{CommandFault}
+use Rattle.command_answers.specs.Chapters.{other_plan_line}
 use Rattle.command_answers.specs.Steps.{IsOrMemory}
 use Rattle.command_run.specs.declared.misfits.Misfit.{Misfit}
 use Rattle.command_run.specs.declared.misfits.Misfit.TheVariants.{NotNew, NotBegun, OtherPlan}
@@ -30,7 +30,7 @@ IsMisfit start run digits (OtherPlan other) = WantsSamePlan start × (run ≡ Na
 abbrev pub misfit_line : Misfit → List ℕ
 misfit_line NotNew = codes "log not new\n"
 misfit_line NotBegun = codes "log not begun\n"
-misfit_line (OtherPlan digits) = codes "log of another " ++ (digits_words digits ++ codes "\n")
+misfit_line (OtherPlan digits) = other_plan_line digits
 
 abbrev pub IsMisfitLine : Misfit → Answer → Type 0
 IsMisfitLine misfit answer = (answer.text.items ≡ misfit_line misfit) × (answer.status ≡ 1)

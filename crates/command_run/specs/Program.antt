@@ -219,7 +219,7 @@ module _ {W : Type 0} (gives : W → List ℕ → Result (List ℕ) CommandFault
   RunsCommand Decide chosen texts before outcome texts_after after =
       RunsDecide gives (aim_in chosen) (run_in chosen) texts outcome texts_after × (after ≡ before)
   RunsCommand Revise chosen texts before outcome texts_after after =
-      Revises gives chosen.file chosen.at chosen.changes.items (inputs_in chosen) (file_at chosen 2) texts outcome texts_after × (after ≡ before)
+      Revises gives chosen.prints (names_file chosen) chosen.at chosen.changes.items (inputs_in chosen) (file_at chosen 2) texts outcome texts_after × (after ≡ before)
   RunsCommand Drive chosen texts before outcome texts_after after =
       RunsDrive (protocol_in chosen) (inputs_in chosen) texts before outcome texts_after after
   RunsCommand Resume chosen texts before outcome texts_after after =

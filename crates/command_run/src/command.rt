@@ -18,7 +18,7 @@ use crate::input::input_answer;
 use crate::pictures::{Timetable, drawing_answer, timetable_answer};
 use crate::planners::seek_answer;
 use crate::resumes::resume_answer;
-use crate::revisions::revision_answer;
+use crate::revisions::{Wanted, revision_answer};
 use cell_drive::{BufferedSink, Protocol, Source};
 use command_answers::{
     Answered, Files, InputPaths, LogAnswer, PlanAnswer, RunFiles, Texts, bounds_answer,
@@ -227,8 +227,12 @@ pub(crate) fn command<T: Texts, R: Source, W: BufferedSink, S: Screen>(
         }
         CommandName::Revise => {
             let (inputs, log) = (inputs(chosen), file(chosen, 2));
-            let changes = chosen.changes.as_slice();
-            revision_answer(alloc, texts, &inputs, log, chosen.at, changes, chosen.file)
+            let wanted = Wanted {
+                prints: chosen.prints,
+                at: chosen.at,
+                names: names(chosen),
+            };
+            revision_answer(alloc, texts, &inputs, log, &chosen.changes, wanted)
         }
         CommandName::Drive => {
             drive_answer(alloc, texts, &inputs(chosen), protocol(chosen), streams)

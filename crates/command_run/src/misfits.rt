@@ -5,9 +5,9 @@ ghost use Rattle.text_lines.specs.Searches.{SomeIfAny};
 ghost use Rattle.run_journal.specs.declared.log_run.LogRun.{LogRun};
 ghost use Rattle.command_run.specs.Misfits.{NeedsBegun, IsMisfit, IsMisfitLine, IsMisfitAnswer, WantsSamePlan};
 
-use command_answers::{Answer, Answered, REFUSED};
+use command_answers::{Answer, Answered, REFUSED, other_plan_answer};
 use command_words::LogStart;
-use event_lines::{LineText, RunDigits, put_digits};
+use event_lines::RunDigits;
 use run_journal::LogRun;
 use std::alloc::{AllocError, Global};
 
@@ -99,12 +99,7 @@ fn misfit_line(alloc: Global, misfit: Misfit) -> Result<Answer, AllocError>
     match misfit {
         Misfit::NotNew => line(alloc, b"log not new\n"),
         Misfit::NotBegun => line(alloc, b"log not begun\n"),
-        Misfit::OtherPlan(digits) => {
-            let mut words = LineText::ended();
-            put_digits(&mut words, &digits);
-            words.put_text(b"log of another ");
-            line(alloc, words.bytes())
-        }
+        Misfit::OtherPlan(digits) => other_plan_answer(alloc, &digits),
     }
 }
 

@@ -1,50 +1,64 @@
 //! The command `revise`.
 
 ghost use Rattle.std.specs.Prelude.{◌≡◌, ◌≤◌, ◌++◌, ◌∷◌, [], IfSome, OnOk, map};
+ghost use Rattle.std.specs.Option.{option_copied};
 ghost use Rattle.std.specs.String.{string_bytes};
 ghost use Rattle.shop_base.specs.declared.limits.TheConstants.{MAX_MOMENT};
 ghost use Rattle.command_run.specs.Revisions.{AreChangesOf, IsChangeOf, Revises, printed_for, values_asked};
 
 use command_answers::{Answered, InputPaths, Revised, Revision, Texts, revise_answer};
-use command_words::{AskedChange, ChangeKind};
+use command_words::{AskedChange, ChangeKind, Prints};
 use plan_revise::Change;
 use shop_base::Moment;
 use std::alloc::{AllocError, Global};
 
-/// The plan, or the instance, with the changes that are asked for, for the rest of the run in a log.
+/// What is printed, the present moment, if another one than the log's last is given, and the file of names, if there is
+/// one.
+#[derive(Clone, Copy)]
+pub(crate) struct Wanted<'a> {
+    pub prints: Prints,
+    pub at: Option<Moment>,
+    pub names: Option<&'a str>,
+}
+
+/// The plan, the instance, or both and the run as one log, with the changes that are asked for, for the rest of the run
+/// in a log.
 pub(crate) fn revision_answer<T: Texts>(
     alloc: Global,
     texts: &mut T,
     inputs: &InputPaths<'_>,
     log: &str,
-    at: Option<Moment>,
     asked: &[AskedChange],
-    file: bool,
+    wanted: Wanted<'_>,
 ) -> Answered
-    requires { IfSome at (λ present. present ≤ MAX_MOMENT) }
-    ensures { Revises T.gives file at asked.now inputs.now log.now texts.old result texts.new }
+    requires { IfSome wanted.at (λ present. present ≤ MAX_MOMENT) }
+    ensures { let w = wanted.entry in
+        Revises T.gives w.prints (option_copied w.names) w.at asked.now inputs.now log.now texts.old result texts.new }
 {
     let (mut changes, mut values) = (Vec::new(alloc), Vec::new(alloc));
     add_changes(&mut changes, &mut values, asked)?;
     let (changes, values) = (changes.as_slice(), values.as_slice());
-    let prints = printed_for(file);
     let wanted = Revision {
-        at,
+        at: wanted.at,
         changes,
         values,
-        prints,
+        prints: printed_for(wanted.prints),
+        names: wanted.names,
     };
     revise_answer(alloc, texts, inputs, log, wanted)
 }
 
-/// What is printed: the instance's text if that is asked for, else the plan's.
-fn printed_for(file: bool) -> Revised
-    ensures { result ≡ printed_for file }
+/// What is printed.
+fn printed_for(prints: Prints) -> Revised
+    ensures { result ≡ printed_for prints }
 {
-    if file {
-        Revised::InstanceText
-    } else {
-        Revised::PlanText
+    match prints {
+        Prints::Plan => Revised::PlanText,
+        Prints::File => Revised::InstanceText,
+        Prints::Log { pruned, hand_over } => Revised::LogText {
+            leaves_out: pruned,
+            hands_over: hand_over,
+        },
     }
 }
 
@@ -79,6 +93,18 @@ fn change_of(asked: &AskedChange) -> Change<'_>
             route: asked.value.as_bytes(),
             release,
             budget,
+        },
+        ChangeKind::Route { job } => Change::Route {
+            job,
+            route: asked.route().as_bytes(),
+        },
+        ChangeKind::Release { job, moment } => Change::Release {
+            job,
+            release: moment,
+        },
+        ChangeKind::Budget { job, moment } => Change::Budget {
+            job,
+            budget: moment,
         },
         ChangeKind::Scrap { job } => Change::Scrap { job },
         ChangeKind::Down { machine } => Change::Down { machine },

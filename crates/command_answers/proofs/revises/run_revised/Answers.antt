@@ -1,8 +1,16 @@
-use Rattle.std.proofs.Common.{inl, inr}
+use Rattle.std.proofs.Common.{inl, inr, subst, sym}
+use Rattle.shop_base.specs.Plan.{PlannedShop}
 use Rattle.text_lines.specs.Lines.{ended_lines}
+use Rattle.run_log.specs.Audits.{IsReplayed}
 use Rattle.command_answers.specs.Rests.{IsRunRefused}
 use Rattle.command_answers.proofs.RunFaults.{has_line, run_fault_is}
-use Rattle.command_answers.proofs.revises.log_revised.Goals as goal
+use Rattle.command_answers.proofs.revises.run_revised.Goals as goal
+
+pub rest_revised-answer-requires : goal.rest_revised-answer-requires
+rest_revised-answer-requires c =
+    let run = c.in-Ok.run' in
+    let plan = rw c.in-Ok.is at c.in_ok-run.ensures.plan in
+    subst (λ (p : PlannedShop). IsReplayed p run.rest.cell run.entries.items) (sym plan) (rw c.in-Ok.is at c.in_ok-run.ensures.run).replayed
 
 pub run_fault_answer-requires : goal.run_fault_answer-requires
 run_fault_answer-requires c =

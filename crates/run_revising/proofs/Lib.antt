@@ -1,0 +1,4 @@
+pub mod Replays
+pub mod Numbering
+pub mod Plants
+pub mod Renumbers

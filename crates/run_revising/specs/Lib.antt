@@ -1,0 +1,3 @@
+-- Reached by public clauses: to be read and believed.
+pub mod Renumbering
+pub mod NextRuns
