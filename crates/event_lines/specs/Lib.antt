@@ -8,5 +8,6 @@ pub mod StandingLines
 pub mod LogLines
 pub mod ReadBack
 pub mod RunDigits
+pub mod LastPlan
 -- Of proofs and private contracts alone.
 pub mod FirstWords

@@ -14,7 +14,7 @@ use Rattle.event_lines.specs.RunDigits.{AreDigits, IsPlanLine, plan_words}
 use Rattle.event_lines.proofs.WrittenWords.{absent_from_both}
 use Rattle.log_chapters.specs.declared.parts.Origin.{Origin}
 use Rattle.log_chapters.specs.Chapters.{no_digits, origin_text, chapter_text}
-use Rattle.log_chapters.specs.LastPlan.{AreNoPlans, IsLastPlan}
+use Rattle.event_lines.specs.LastPlan.{AreNoPlans, IsLastPlan}
 use Rattle.log_chapters.specs.ChapterLaw.{IsWholeOrNone, ChaptersAreWholeOrNone}
 use Rattle.log_chapters.proofs.ChapterLines.{text_of, Each, each-append, each-behind, behind, names_behind, number_fronts, entry_front, entry_fronts, middle, chapter_parts, chapter_same, plan_unreturned, no_digits_are, parts_have_none}
 

@@ -8,7 +8,7 @@ use Rattle.event_lines.specs.declared.run_digits.RunDigits.{RunDigits}
 use Rattle.event_lines.specs.{RunDigits.AreDigits, LogLines.IsEntryOf, LogLines.LinesParse}
 use Rattle.log_chapters.specs.declared.parts.Origin.{Origin}
 use Rattle.log_chapters.specs.Chapters.{no_digits, origin_text, chapter_text}
-use Rattle.log_chapters.specs.LastPlan.{IsLastPlan}
+use Rattle.event_lines.specs.LastPlan.{IsLastPlan}
 
 -- what stands behind the prefix in a line that begins with it, with a line feed; nothing of any other line
 abbrev pub marked_line : List ℕ → List ℕ → List ℕ

@@ -1,5 +1,4 @@
 -- Reached by public clauses: to be read and believed.
 pub mod Chapters
 pub mod NamesGiven
-pub mod LastPlan
 pub mod ChapterLaw

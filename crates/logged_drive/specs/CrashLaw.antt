@@ -10,7 +10,8 @@ use Rattle.cell_drive.specs.{declared.protocol.Protocol.Protocol, ProtocolText.P
 use Rattle.cell_drive.specs.AnswerText.{DrivenCell, undriven, CellCloses}
 use Rattle.cell_drive.specs.Recovered.{Recovered, replayed_events, IsRecovered, IsRecoverable}
 use Rattle.cell_drive.specs.Resuming.{due_text, driven_so_far}
-use Rattle.run_journal.specs.{LogFiles.IsLeft, LogRuns.IsNamedFor, LogRuns.NameLast, LoggedLines.logged}
+use Rattle.event_lines.specs.LastPlan.{IsLastPlan}
+use Rattle.run_journal.specs.{LogFiles.IsLeft, LogRuns.IsNamedFor, LoggedLines.logged}
 use Rattle.run_journal.specs.{WholeLines.torn_end, WholeLines.whole_lines, TornEnds.is_torn}
 
 -- what was left can be recovered by the plan: behind the events that the log recorded before, it records the first of those that came, with all that were shown, and its end can be what a crash left of a line
@@ -60,7 +61,7 @@ pub record IsRecoveredAfter (p : PlannedShop) (recorded : List Entry) (start : L
 
 -- what was left names the plan of these digits last, and can be recovered by the plan so
 pub record IsOfItsPlan (p : PlannedShop) (digits : RunDigits) (recorded came : List Entry) (shown left : List ℕ) : Type 0 where
-  pub named : NameLast (lines_of (whole_lines left)) digits
+  pub named : IsLastPlan (lines_of (whole_lines left)) digits
   pub again : IsRecoveredAgain p recorded came shown left
 
 -- so it is with each of both runs, where the log had whole lines and, behind them, the line of the plan, unless it was their last one

@@ -13,7 +13,8 @@ use Rattle.run_journal.specs.declared.log_run.LogRun.{LogRun}
 use Rattle.run_journal.specs.declared.log_run.LogRun.TheVariants.{Named}
 use Rattle.run_journal.specs.Folders.{Folder, NamedLog, held, handed_if}
 use Rattle.run_journal.specs.Logged.{Held}
-use Rattle.run_journal.specs.LogRuns.{IsLogRunOf, NameLast}
+use Rattle.event_lines.specs.LastPlan.{IsLastPlan}
+use Rattle.run_journal.specs.LogRuns.{IsLogRunOf}
 use Rattle.run_journal.specs.WholeLines.{whole_lines}
 use Rattle.run_journal.proofs.LogRuns.{last_run}
 use Rattle.logged_drive.specs.declared.recovered_log.RecoverFault.{RecoverFault}
@@ -65,11 +66,11 @@ fits Any run digits own is start none other = none (OtherPlan digits) (inl refl,
 fits Continue run digits own is start none other = none (OtherPlan digits) (inr refl, is, λ same. other (sym same))
 fits HandOver run digits own is start none other = start refl
 
-module _ (p : PlannedShop) (digits : RunDigits) (bytes : List ℕ) (named : NameLast (lines_of (whole_lines bytes)) digits) (other : digits_in p ≡ digits → ⊥) where
+module _ (p : PlannedShop) (digits : RunDigits) (bytes : List ℕ) (named : IsLastPlan (lines_of (whole_lines bytes)) digits) (other : digits_in p ≡ digits → ⊥) where
   fitting : (folder after : Folder) (path : List ℕ) (protocol : Protocol) (at : Option ℕ) (q : PlannedShop) (step : Step) → DrivesFitting folder after path protocol at q (Some bytes) step → DrivenBy p step.log → p ≡ q
   fitting folder after path protocol at q step is driven = some bytes named is
     where
-      some : (xs : List ℕ) → NameLast (lines_of (whole_lines xs)) digits → DrivesFitting folder after path protocol at q (Some xs) step → p ≡ q
+      some : (xs : List ℕ) → IsLastPlan (lines_of (whole_lines xs)) digits → DrivesFitting folder after path protocol at q (Some xs) step → p ≡ q
       some [] none is = absurd none
       some (x ∷ xs) names is = log_plan p protocol at q (x ∷ xs) is.0.recovered step is.0.takes is.0.goes_on driven
 

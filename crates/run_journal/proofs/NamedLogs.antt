@@ -11,7 +11,8 @@ use Rattle.event_lines.specs.Words.{Word, Text, words_before, line_of}
 use Rattle.event_lines.specs.RunDigits.{AreDigits, is_small_hex, plan_words, plan_line}
 use Rattle.event_lines.proofs.WrittenWords.{absent_from_words, AreSpaceless, before-append, line_first}
 use Rattle.run_journal.specs.{Folders.{Folder, NamedLog, with_log, with_made}, WholeLines.{whole_lines, torn_end}}
-use Rattle.run_journal.specs.{LogRuns.{IsNamedFor, IsNamedOrNot, NameLast}, LogFiles.{zeros, IsLeft}, TornEnds.is_torn}
+use Rattle.event_lines.specs.LastPlan.{IsLastPlan}
+use Rattle.run_journal.specs.{LogRuns.{IsNamedFor, IsNamedOrNot}, LogFiles.{zeros, IsLeft}, TornEnds.is_torn}
 use Rattle.run_journal.proofs.Whole.{cut_keeps, take_whole, whole-behind, whole-push_feed, whole-zeros}
 use Rattle.run_journal.proofs.{LeftEvents.parse-both, Formed.{none_written, torn_lines, torn-behind}}
 use Rattle.run_journal.proofs.{TornEnds.plan_begins, ByLines.{lines_both, ended_both, none_whole}}
@@ -84,7 +85,7 @@ module _ (digits : RunDigits) (are : AreDigits digits) (file left : List ℕ) (w
   lines_are : whole_lines left ≡ file ++ whole_lines rest
   lines_are = ap whole_lines left_is ∙ whole-behind file rest whole
 
-  pub named_crash : (NameLast (lines_of file) digits → ⊥) → IsNamedOrNot digits file (whole_lines left)
+  pub named_crash : (IsLastPlan (lines_of file) digits → ⊥) → IsNamedOrNot digits file (whole_lines left)
   named_crash none = elim (front_of (plan_words digits) more is.unwritten (plan_no_feed digits are)) [
     | inl not ↦ inl (lines_are ∙ ap (λ (l : List ℕ). file ++ l) not ∙ append-nil file)
     | inr all ↦ inr (inr (none, lines_are ∙ ap (λ (l : List ℕ). file ++ l) all))
@@ -124,16 +125,16 @@ named_parses p digits lines base recorded are whole (inr is) parses =
     subst (λ (ls : List (List ℕ)). LinesParse p ls recorded) (sym ended)
     (subst (λ (es : List Entry). LinesParse p (ended_lines lines ++ ended_lines (plan_line digits)) es) (append-nil recorded) (parse-both p (ended_lines lines) (ended_lines (plan_line digits)) recorded [] parses (plan_parses p digits are)))
 
-last_behind : (lines others : List (List ℕ)) (digits : RunDigits) → NameLast others digits → NameLast (lines ++ others) digits
+last_behind : (lines others : List (List ℕ)) (digits : RunDigits) → IsLastPlan others digits → IsLastPlan (lines ++ others) digits
 last_behind [] others digits is = is
 last_behind (line ∷ lines) others digits is = inr (last_behind lines others digits is)
 
 -- they name it last
-pub named_last : (digits : RunDigits) (lines base : List ℕ) → AreDigits digits → whole_lines lines ≡ lines → IsNamedFor digits lines base → NameLast (lines_of base) digits
-named_last digits lines base are whole (inl is) = subst (λ (l : List ℕ). NameLast (lines_of l) digits) (sym is.1) is.0
+pub named_last : (digits : RunDigits) (lines base : List ℕ) → AreDigits digits → whole_lines lines ≡ lines → IsNamedFor digits lines base → IsLastPlan (lines_of base) digits
+named_last digits lines base are whole (inl is) = subst (λ (l : List ℕ). IsLastPlan (lines_of l) digits) (sym is.1) is.0
 named_last digits lines base are whole (inr is) =
-    subst (λ (ls : List (List ℕ)). NameLast ls digits) (sym (ap lines_of is.1 ∙ lines_both lines (plan_line digits) whole))
-    (last_behind (lines_of lines) (lines_of (plan_line digits)) digits (subst (λ (ls : List (List ℕ)). NameLast ls digits) (sym (plan_lines digits are)) (inl ((refl, are), tt))))
+    subst (λ (ls : List (List ℕ)). IsLastPlan ls digits) (sym (ap lines_of is.1 ∙ lines_both lines (plan_line digits) whole))
+    (last_behind (lines_of lines) (lines_of (plan_line digits)) digits (subst (λ (ls : List (List ℕ)). IsLastPlan ls digits) (sym (plan_lines digits are)) (inl ((refl, are), tt))))
 
 -- ---- folders
 

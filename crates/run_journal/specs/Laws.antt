@@ -2,7 +2,8 @@
 use Rattle.std.specs.Prelude.{◌≡◌, ℕ, List, ◌++◌, length}
 use Rattle.text_lines.specs.Lines.{lines_of}
 use Rattle.event_lines.specs.declared.run_digits.RunDigits.{RunDigits}
-use Rattle.run_journal.specs.{LogFiles.IsLeft, LogRuns.NameLast, WholeLines.whole_lines, LoggedLines.logged}
+use Rattle.event_lines.specs.LastPlan.{IsLastPlan}
+use Rattle.run_journal.specs.{LogFiles.IsLeft, WholeLines.whole_lines, LoggedLines.logged}
 
 -- these are whole lines of what a log gets of a text, from its first one on, and among them are all that it gets of what was shown
 pub record AreLinesOf (text shown lines : List ℕ) : Type 0 where
@@ -18,5 +19,5 @@ ACrashKeepsWhatWasShown = (base shown pending left : List ℕ) → whole_lines b
 
 -- whole lines name a plan last; of what a log gets behind them no line is that of a plan. Whatever a crash leaves names the same plan last
 abbrev pub ACrashKeepsThePlan : Type 0
-ACrashKeepsThePlan = (digits : RunDigits) (base shown pending left : List ℕ) → whole_lines base ≡ base → NameLast (lines_of base) digits
-    → IsLeft (length (base ++ logged shown)) (base ++ logged (shown ++ pending)) left → NameLast (lines_of (whole_lines left)) digits
+ACrashKeepsThePlan = (digits : RunDigits) (base shown pending left : List ℕ) → whole_lines base ≡ base → IsLastPlan (lines_of base) digits
+    → IsLeft (length (base ++ logged shown)) (base ++ logged (shown ++ pending)) left → IsLastPlan (lines_of (whole_lines left)) digits

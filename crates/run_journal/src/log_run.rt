@@ -3,7 +3,8 @@
 ghost use Rattle.std.specs.Prelude.{◌≡◌, ◌↔◌, IsTrue, MatchOption};
 ghost use Rattle.text_lines.specs.Lines.{lines_of};
 ghost use Rattle.run_journal.specs.declared.log_run.LogRun.{LogRun};
-ghost use Rattle.run_journal.specs.LogRuns.{HasBegun, IsOfRun, IsLogRunOf, NameLast, NameNone};
+ghost use Rattle.event_lines.specs.LastPlan.{AreNoPlans, IsLastPlan};
+ghost use Rattle.run_journal.specs.LogRuns.{HasBegun, IsOfRun, IsLogRunOf};
 
 use event_lines::{RunDigits, digits_of_line, entry_of};
 use text_lines::next_line;
@@ -55,7 +56,7 @@ fn are_same(one: &RunDigits, other: &RunDigits) -> bool
 
 /// The digits in the last of these lines that is the line of a plan.
 fn last_plan(lines: &[u8]) -> Option<RunDigits>
-    ensures { MatchOption result (NameNone (lines_of lines.now)) (NameLast (lines_of lines.now)) }
+    ensures { MatchOption result (AreNoPlans (lines_of lines.now)) (IsLastPlan (lines_of lines.now)) }
 {
     let mut last = None;
     let mut rest = lines;
