@@ -43,6 +43,10 @@ pub fn plan_line(digits: &RunDigits) -> LineText
 pub fn digits_of_line(line: &[u8]) -> Option<RunDigits>
     ensures { SomeIfAny result (IsPlanLine line.now) }
 {
+    // Its first byte tells a line of an event, as most lines of a log are.
+    if !line.starts_with(b"u") {
+        return None;
+    }
     let rest = after_prefix(line, b"unfinished plan ")?;
     if rest.len() != 38 {
         return None;

@@ -23,5 +23,6 @@ pub fn has_names(lines: &[u8]) -> bool
 fn is_of_names(line: &[u8]) -> bool
     ensures { IsTrue result ↔ IsLineOfNames line.now }
 {
-    after_prefix(line, b"unfinished names: ").is_some()
+    // Its first byte tells a line of an event, as most lines of a log are.
+    line.starts_with(b"u") && after_prefix(line, b"unfinished names: ").is_some()
 }
