@@ -9,6 +9,7 @@ pub mod NameLines
 pub mod Faults
 pub mod Reading
 pub mod Documents
+pub mod AddedNames
 pub mod Answers
 pub mod Laws
 -- Of invariants and private contracts alone.

@@ -16,9 +16,11 @@ mod name_texts;
 mod names;
 mod names_fault;
 mod read;
+mod unnamed;
 
 pub use clock::{Clock, clock_of};
 pub use keys::NamesKey;
 pub use names::{LONGEST_MOMENT, LONGEST_NAME, LONGEST_VISIT, Names};
 pub use names_fault::{KeyText, NamesFault};
 pub use read::read_names;
+pub use unnamed::{JobNameFault, NotNamed};

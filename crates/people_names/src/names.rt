@@ -1,7 +1,8 @@
 ghost use Rattle.std.specs.Prelude.{◌≡◌, ◌+◌, ◌<◌, ◌≤◌, ◌++◌, map, length, slice_get};
-ghost use Rattle.std.specs.Prelude.{option_map, string_bytes, true, None, IfOk};
+ghost use Rattle.std.specs.Prelude.{option_map, string_bytes, true, None, IfErr, IfOk, OnErr, OnOk};
 ghost use Rattle.std.specs.List.{All};
 ghost use Rattle.people_names.specs.{NameBooks.no_names, Lists.AreShort, KeptNames.kept_names, NameLines.name_lines};
+ghost use Rattle.people_names.specs.AddedNames.{AreJobNames, IsWhyUnnamed, why_unnamed, with_job};
 ghost use Rattle.people_names.specs.Words.{word_of, job_word, visit_word, machine_word, two_digits, hour_and_minute};
 ghost use Rattle.people_names.specs.Words.{day_words, minute_words, second_words, moment_by, moment_word};
 ghost use Rattle.people_names.specs.Words.{is_budget_printed, is_deadline_printed};
@@ -11,6 +12,7 @@ use crate::clock::Clock;
 use crate::document::{push_clock, push_list};
 use crate::kept::{first_names, names_of_jobs};
 use crate::keys::NamesKey;
+use crate::unnamed::{NotNamed, add_name};
 use shop_base::limits::MAX_MOMENT;
 use shop_base::{JobNo, MachineNo, Moment};
 use std::alloc::{AllocError, Global};
@@ -89,6 +91,20 @@ impl Names {
             lists_jobs: self.lists_jobs,
             lists_machines: self.lists_machines,
         })
+    }
+
+    /// Adds the name of the job behind so many others, if the first of these have names, and it is none of them. Unless it
+    /// is added all stays as it is.
+    pub fn add_job(&mut self, alloc: Global, name: &str, jobs: u32) -> Result<(), NotNamed>
+        ensures fine { OnOk result (why_unnamed self.old.jobs jobs name.now ≡ None) }
+        ensures added { OnOk result (self.new ≡ with_job self.old name.now) }
+        ensures readable { OnOk result (AreJobNames self.old.jobs → AreJobNames self.new.jobs) }
+        ensures refused { IfErr result (IsWhyUnnamed (why_unnamed self.old.jobs jobs name.now)) }
+        ensures unchanged { OnErr result (self.new ≡ self.old) }
+    {
+        add_name(alloc, &mut self.jobs, name, jobs)?;
+        self.lists_jobs = true;
+        Ok(())
     }
 
     /// A text of these names in TOML: a line for each key that there is.
