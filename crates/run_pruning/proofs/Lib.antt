@@ -19,3 +19,4 @@ pub mod NarrowedOnward
 pub mod NarrowedRests
 pub mod NarrowedReports
 pub mod LeftWithoutSpare
+pub mod PrunedCycles

@@ -7,7 +7,7 @@ use Rattle.shop_base.specs.declared.limits.TheConstants.{MAX_RELEASE, MAX_MOMENT
 use Rattle.shop_base.specs.Shop.{IsRoute, step_at}
 use Rattle.shop_base.specs.Plan.{PlannedShop, jobs, machines, route, release, budget, order, job_at, count_below, Visits, Stands, IsOrder, IsWellShaped}
 use Rattle.shop_base.proofs.Counting.{count_found, count_rises, count_within}
-use Rattle.shop_base.proofs.Visits.{visits_job, visits-stands}
+use Rattle.shop_base.proofs.Visits.{visits_job, visits-stands, stands_once}
 use Rattle.run_pruning.specs.Staying.{stays, new_number, renumbered}
 use Rattle.run_pruning.specs.Pruned.{pruned}
 use Rattle.run_pruning.proofs.Left.{staying_at, length-staying, job_of, stays_at, new_place, renumbered_at, length-renumbered, places_kept}
@@ -63,6 +63,14 @@ module _ (p : PlannedShop) (marks : List Bool) (count : length marks ≡ jobs p)
     where
       here : stays_at marks (order p m) a ≡ true
       here = ap (stays marks) stands.job ∙ kept
+
+  -- a visit that is left was one of a job that stays
+  pub stood : IsWellShaped p → (m b i k : ℕ) → Stands left m b i k → (j : ℕ) × (a : ℕ) × (stays marks j ≡ true) × (new_number marks j ≡ i) × Stands p m a j k × (new_place marks (order p m) a ≡ b)
+  stood shaped m b i k stands =
+      let (j, less, kept, is) = old_job i (visits_job left i k m stands.visits) in
+      let mine : Stands left m b (new_number marks j) k = subst (λ x. Stands left m b x k) (sym is) stands in
+      let (a, was) = visits-stands p j k m shaped (visits_were j k m kept mine.visits) in
+      (j, a, kept, is, was, stands_once left m (new_place marks (order p m) a) b (new_number marks j) k (stands_kept m a j k kept was) mine)
 
   module _ (shaped : IsWellShaped p) where
     order_sound : (m : ℕ) → m < machines p → IsOrder left m

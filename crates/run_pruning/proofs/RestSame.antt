@@ -15,7 +15,7 @@ use Rattle.shop_base.specs.Graph.{Arc, job_arc, blocking_arc, node}
 use Rattle.shop_base.specs.Ahead.{IsAhead, next_node, HoldsUp, PathAhead, now, held, onward}
 use Rattle.shop_base.specs.Sound.{IsSound}
 use Rattle.shop_base.proofs.Counting.{count_grows, count_passed, count_rises, count_same}
-use Rattle.shop_base.proofs.Visits.{steps_job, visits_job, visits_machine, visits-stands, stands_once}
+use Rattle.shop_base.proofs.Visits.{steps_job, visits_job, visits_machine}
 use Rattle.shop_base.proofs.InShop.{outside_in_shop}
 use Rattle.shop_base.proofs.Keeping.{run-sound}
 use Rattle.shop_base.proofs.Ahead.{IsLeftIn, arc_left, held_left, path_left}
@@ -24,7 +24,7 @@ use Rattle.run_pruning.specs.Pruned.{pruned, pruned_cell}
 use Rattle.run_pruning.specs.PruningLaw.{pruned_run, IsWhatIsLeft}
 use Rattle.run_pruning.specs.RestLaw.{new_node, IsNodeAhead, IsHeldUntil, IsAheadRenamed, ArePathsRenamed, NothingAheadChanges}
 use Rattle.run_pruning.proofs.Left.{staying_at, number_once, stays_at, new_place, length-renumbered}
-use Rattle.run_pruning.proofs.PrunedShops.{number_inside, old_job, route_kept, visits_were, stands_kept}
+use Rattle.run_pruning.proofs.PrunedShops.{number_inside, old_job, route_kept, visits_were, stands_kept, stood}
 use Rattle.run_pruning.proofs.PrunedCells.{entries_left, job_left}
 use Rattle.run_pruning.proofs.PrunedSteps.{on_left}
 use Rattle.run_pruning.proofs.AheadStays.{stays_here, place_stays}
@@ -52,14 +52,6 @@ module _ (p : PlannedShop) (marks : List Bool) (count : length marks ≡ jobs p)
       ap length (entries_left marks c c.last m) ∙ length-renumbered marks (entries c m)
       ∙ count_same (stays_at marks (entries c m)) (stays_at marks (order p m)) (length (entries c m))
       (λ i less. ap (stays marks) (sym (get_or-append (entries c m) rest 0 i less) ∙ sym (ap (λ (js : List ℕ). get_or js i 0) e)))
-
-  -- a visit that is left was one of a job that stays
-  stood : (m b i k : ℕ) → Stands q m b i k → (j : ℕ) × (a : ℕ) × (stays marks j ≡ true) × (new_number marks j ≡ i) × Stands p m a j k × (new_place marks (order p m) a ≡ b)
-  stood m b i k stands =
-      let (j, less, kept, is) = old_job p marks count i (visits_job q i k m stands.visits) in
-      let mine : Stands q m b (new_number marks j) k = subst (λ x. Stands q m b x k) (sym is) stands in
-      let (a, was) = visits-stands p j k m shaped (visits_were p marks count j k m kept mine.visits) in
-      (j, a, kept, is, was, stands_once q m (new_place marks (order p m) a) b (new_number marks j) k (stands_kept p marks count m a j k kept was) mine)
 
   place_kept : (m a j k : ℕ) → stays marks j ≡ true → Stands p m a j k → stays_at marks (order p m) a ≡ true
   place_kept m a j k kept stands = ap (stays marks) stands.job ∙ kept
@@ -118,8 +110,8 @@ module _ (p : PlannedShop) (marks : List Bool) (count : length marks ≡ jobs p)
         subst (λ x. Arc p (node j k) (node j (k + 1)) x) (sym (nominal_kept j k kept) ∙ ap (λ x. nominal q x k) is) (job_arc j k (omega (arith, within, steps_kept j kept, ap (steps q) is))),
       )
   arc_was _ _ _ (blocking_arc m b x k y l one other) ahead =
-      let (i, a, kept, is, was, place) = stood m b x k one in
-      let (j, a2, kept2, is2, was2, place2) = stood m (b + 1) y l other in
+      let (i, a, kept, is, was, place) = stood p marks count shaped m b x k one in
+      let (j, a2, kept2, is2, was2, place2) = stood p marks count shaped m (b + 1) y l other in
       let here : made c i ≤ k + 1 = omega (arith, ahead, made_left i kept, ap (made d) is) in
       let few : length (entries c m) ≤ a + 1 = elim (cases_lt (a + 1) (length (entries c m))) [
         | inr left ↦ left
@@ -201,7 +193,7 @@ module _ (p : PlannedShop) (marks : List Bool) (count : length marks ≡ jobs p)
         ),
       )
   held_was (Cleaning m) due w (from, going) stands =
-      let (j, a, kept, is, was, place) = stood m (length (entries d m)) w.job w.place stands in
+      let (j, a, kept, is, was, place) = stood p marks count shaped m (length (entries d m)) w.job w.place stands in
       let first : a ≡ length (entries c m) = place_first m a (visits_machine p j w.place m shaped was.visits) (place_kept m a j w.place kept was) was.within place in (
         node j w.place,
         ap (λ x. node x w.place) (sym is),

@@ -9,3 +9,4 @@ pub mod OnwardLaw
 pub mod Numbers
 pub mod Spare
 pub mod SpareLaw
+pub mod CycleLaw

@@ -4,6 +4,7 @@
 
 ghost use Rattle.run_pruning.specs.PruningLaw.{AnyJobsHaveTheirRun, WhatIsLeftIsARun, NothingMoreIsOver};
 ghost use Rattle.run_pruning.specs.{RestLaw.NothingAheadChanges, OnwardLaw.TheRunGoesOnRenamed};
+ghost use Rattle.run_pruning.specs.CycleLaw.{NoCycleComesWithoutJobs, NoCycleComesWithoutSpare};
 ghost use Rattle.run_pruning.specs.SpareLaw.{TheRunsAreTheSame, TheRestsAreTheSame, WhatIsLeftNeedsNoSpare, NothingIsOverWithoutSpare};
 
 /// Whatever jobs stay, at least one, the planned shop of them alone is well shaped, and their events are a run of it, which
@@ -57,4 +58,11 @@ pub fn what_is_left_needs_no_spare()
 /// Nor is any job over then, where all that were over are dropped.
 pub fn nothing_is_over_without_spare()
     ensures { NothingIsOverWithoutSpare }
+{}
+
+/// Where the plan has no cycle, that of the jobs that stay has none, whatever jobs these are, nor has it one without the
+/// machine that nobody visits.
+pub fn no_cycle_comes_without_them()
+    ensures jobs { NoCycleComesWithoutJobs }
+    ensures machine { NoCycleComesWithoutSpare }
 {}
