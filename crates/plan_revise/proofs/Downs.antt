@@ -11,7 +11,7 @@ use Rattle.shop_base.proofs.Visits.{visits_job}
 use Rattle.cell_tables.specs.Carried.{carried_job}
 use Rattle.cell_tables.specs.KeptLaw.{AKeptRunIsOneOfTheOtherPlan}
 use Rattle.plan_revise.specs.declared.change.Change.{Change}
-use Rattle.plan_revise.specs.declared.change.Change.TheVariants.{Until, Add, Scrap, Down, Route, Release, Budget}
+use Rattle.plan_revise.specs.declared.change.Change.TheVariants.{Until, Add, Scrap, Down, Route, Release, Budget, Hold}
 use Rattle.plan_revise.specs.Ended.{with_job_ended}
 use Rattle.plan_revise.specs.Settings.{RevisionSetting, setting, moves_made}
 use Rattle.plan_revise.specs.Aside.{HasRoom, put_aside}
@@ -121,6 +121,7 @@ module _ (s : RevisionSetting) (is : IsSetting s) where
   downs-keep p (Route j words ∷ changes) q m i downs revision made in_plant done = absurd downs
   downs-keep p (Release j moment ∷ changes) q m i downs revision made in_plant done = absurd downs
   downs-keep p (Budget j moment ∷ changes) q m i downs revision made in_plant done = absurd downs
+  downs-keep p (Hold machine to ∷ changes) q m i downs revision made in_plant done = absurd downs
   downs-keep p (Down machine ∷ changes) q m i downs revision (next, one, rest) in_plant done =
       downs-keep next changes q m i downs (becomes-revision s is p (Down machine) next revision one) rest in_plant
       (subst (λ (r : PlannedShop). IsDone r m i) (sym one.is) (without-keeps p m machine i (jobs p) revision (omega arith) in_plant one.room done))

@@ -1,8 +1,9 @@
 -- A job with one visit more: what is left and changed, and that the plan still fits.
 use Rattle.std.proofs.Common.{◌≡◌, ◌≢◌, ℕ, zero, suc, ◌+◌, ◌<◌, ◌≤◌, ◌⊎◌, inl, inr, List, [], ◌∷◌, ◌++◌, length, get_or, nat_eq, cond, Bool, refl, sym, ap, ◌∙◌, subst, arith, length-append}
-use Rattle.std.specs.Prelude.{insert}
+use Rattle.std.specs.Prelude.{insert, remove}
 use Rattle.std.proofs.lemmas.Bool.{cases_eq, cases_lt, eq-eqb, eqb-true, ne_eqb}
 use Rattle.std.proofs.lemmas.List.{get_or-set_same, get_or-set_other, length-set}
+use Rattle.std.proofs.lemmas.List.Edits.{length-insert, get_or-insert_at}
 use Rattle.std.proofs.Math.ListN.{get_or-append}
 use Rattle.shop_base.specs.declared.shop.Step.{Step}
 use Rattle.shop_base.specs.Shop.{IsRoute, IsSoundStep, step_at, no_step}
@@ -12,7 +13,7 @@ use Rattle.shop_base.proofs.{Counting.{count_found, count_rises}, Orders.{stands
 use Rattle.plan_revise.specs.AnotherWay.{with_visit_at}
 use Rattle.plan_revise.specs.Fits.{IsFit}
 use Rattle.plan_revise.specs.Parts.{visits_in}
-use Rattle.plan_revise.proofs.Places.{count_first, visits_in-count, visits_here, visits_there}
+use Rattle.plan_revise.proofs.Places.{IsRemoved, count_first, visits_in-count, visits_here, visits_there}
 
 -- ---- an order has each job as often as it visits the machine
 
@@ -60,6 +61,12 @@ visits_more (first ∷ r) step m = go (cases_eq first.machine m) (visits_more r 
     go (inl here) rest = omega (arith, visits_here first (r ++ step ∷ []) m here, visits_here first r m here, rest)
     go (inr there) rest = omega (arith, visits_there first (r ++ step ∷ []) m there, visits_there first r m there, rest)
 
+-- an entry that is put into a list comes out again
+put_removed : (xs : List ℕ) (a j : ℕ) → a ≤ length xs → xs ≡ remove (insert xs a j) a
+put_removed xs zero j within = refl
+put_removed [] (suc a) j within = absurd (omega arith)
+put_removed (x ∷ xs) (suc a) j within = ap (λ (ys : List ℕ). x ∷ ys) (put_removed xs a j (omega arith))
+
 -- ---- what is left and changed
 
 module _ (p : PlannedShop) (j : ℕ) (step : Step) (a : ℕ) where
@@ -81,6 +88,17 @@ module _ (p : PlannedShop) (j : ℕ) (step : Step) (a : ℕ) where
 
   pub visit-orders : (m : ℕ) → m ≢ step.machine → order longer m ≡ order p m
   visit-orders m other = get_or-set_other p.plan.order step.machine m (insert (order p step.machine) a j) [] other
+
+  -- without the new entry the order is as it was
+  pub visit-removed : step.machine < length p.plan.order → a ≤ length (order p step.machine) → IsRemoved j (order longer step.machine) a (order p step.machine)
+  visit-removed inside within = record {
+    within = omega (arith, ap length put, length-insert (order p step.machine) a j within, within);
+    here = ap (λ (xs : List ℕ). get_or xs a 0) put ∙ get_or-insert_at (order p step.machine) a j 0 within;
+    is = put_removed (order p step.machine) a j within ∙ ap (λ (xs : List ℕ). remove xs a) (sym put);
+  }
+    where
+      put : order longer step.machine ≡ insert (order p step.machine) a j
+      put = visit-order inside
 
   module _ (inside : j < jobs p) where
     pub visit-steps : steps longer j ≡ steps p j + 1

@@ -7,6 +7,11 @@ pub mod DatesMoved
 pub mod Inserted
 pub mod Keeping
 pub mod SentOn
+pub mod BehindMove
+pub mod Searching
+pub mod SentBehind
+pub mod HeldArcs
+pub mod Holds
 pub mod Revisions
 pub mod EndedArcs
 pub mod PlacedArcs
@@ -19,3 +24,5 @@ pub mod Downs
 pub mod Lifted
 pub mod Sooner
 pub mod StillAccepted
+pub mod HeldEntry
+pub mod HeldAhead

@@ -11,7 +11,7 @@ use Rattle.shop_base.specs.Cell.{Cell, made}
 use Rattle.shop_base.specs.Graph.{node, leaving, Arc, job_arc, blocking_arc}
 use Rattle.shop_base.specs.Ahead.{IsAhead, RespectArcs, MeetBudgetsAhead}
 use Rattle.plan_revise.specs.declared.change.Change.{Change}
-use Rattle.plan_revise.specs.declared.change.Change.TheVariants.{Until, Add, Scrap, Down, Route, Release, Budget}
+use Rattle.plan_revise.specs.declared.change.Change.TheVariants.{Until, Add, Scrap, Down, Route, Release, Budget, Hold}
 use Rattle.plan_revise.specs.Promises.{no_promise}
 use Rattle.plan_revise.specs.Ended.{with_job_ended}
 use Rattle.plan_revise.specs.Settings.{RevisionSetting, moves_made}
@@ -32,7 +32,7 @@ use Rattle.plan_revise.proofs.DatesMoved.{coming-same, promised-same, coming-rel
 use Rattle.plan_revise.proofs.PlacedParts.{SameVisits, same-visits_back}
 use Rattle.plan_revise.proofs.RevisedLaws.{same_arc, stopped_at-stays, aside_visits, becomes-more_jobs}
 use Rattle.plan_revise.proofs.Outcomes.{made-stays, made-more_jobs}
-use Rattle.shop_base.proofs.Visits.{visits_job, visits_machine, visits-stands}
+use Rattle.shop_base.proofs.Visits.{visits_job, visits_machine}
 use Rattle.plan_revise.proofs.Revisions.{HasAside, has_aside, aside_ends, aside_fit, aside_places, aside_others, stopped_outside, stopped_inside, stage_upto, stage_room, becomes-revision}
 
 -- moments that respect the arcs ahead and meet the budgets there
@@ -118,6 +118,7 @@ one_spares s i p (Down machine) less = tt
 one_spares s i p (Route j words) less = absurd less
 one_spares s i p (Release j moment) less = less
 one_spares s i p (Budget j moment) less = tt
+one_spares s i p (Hold machine to) less = less
 
 pub all_spare : (s : RevisionSetting) (i : ℕ) (p : PlannedShop) (changes : List Change) → AreAll AsksNoMore s p changes → AreAll (SparesJob s i) s p changes
 all_spare s i p [] less = tt
@@ -352,6 +353,7 @@ module _ (s : RevisionSetting) (is : IsSetting s) (c : Cell) (top : ℕ) (moved 
     sound = promised_sound p j moment revision.fit made.in_line sound;
     same = λ v free. refl;
   })
+  becomes_lifted p kept (Hold machine to) q less revision made few_jobs f sound = absurd less
 
   pub made_lifted : (p : PlannedShop) (kept : Node → ℕ) (changes : List Change) (q : PlannedShop) → AreAll AsksNoMore s p changes → IsRevision s p → AreMade s p changes q → jobs q ≤ top → AreFitting c p kept → IsAsideSound s p
       → (later : Node → ℕ) × AreFitting c q later × ((v : Node) → v.job < jobs p → (Visits q v.job 0 s.plant → ⊥) → later v ≡ kept v)

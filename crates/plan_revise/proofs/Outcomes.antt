@@ -186,7 +186,7 @@ module _ (kept : AKeptRunIsOneOfTheOtherPlan) (p q : PlannedShop) (es : List Eve
   carried : IsCarried p (ends_in p es) q (ends_in q es)
   carried = (run_stays kept p q es t plant changes r).2
 
-  entries_there : (m : ℕ) → entries (ends_in q es) m ≡ entries (ends_in p es) m
+  pub entries_there : (m : ℕ) → entries (ends_in q es) m ≡ entries (ends_in p es) m
   entries_there m = elim (cases_lt m (machines q)) [
     | inl inside ↦ carried.entries_same m inside
     | inr past ↦ ap (λ (x : MachineState). x.entries) (get_or_past (ends_in q es).machines m unused (omega (arith, carried.machine_count)))

@@ -211,6 +211,13 @@ with_job-same p = record {
   orders = λ m. refl;
 }
 
+-- it is the last one, and has no route yet
+pub new-inside : (p : PlannedShop) → jobs p < jobs (with_new_job p)
+new-inside p = omega (arith, length-append p.shop.routes ([] ∷ []))
+
+pub new-none : (p : PlannedShop) → route (with_new_job p) (jobs p) ≡ []
+new-none p = default_more p.shop.routes [] (jobs p) ∙ get_or_past p.shop.routes (jobs p) [] (omega arith)
+
 pub with_job-fit : (p : PlannedShop) → IsFit p → jobs p < MAX_JOBS → IsFit (with_new_job p)
 with_job-fit p fit few = record {
   size = record { some_job = omega (arith, length-append p.shop.routes ([] ∷ [])); few_jobs = omega (arith, length-append p.shop.routes ([] ∷ [])); some_machine = fit.size.some_machine; few_machines = fit.size.few_machines };

@@ -14,7 +14,7 @@ use Rattle.shop_base.specs.Ahead.{PathAhead, now, held, onward}
 use Rattle.shop_base.proofs.Cycles.{source_node}
 use Rattle.plan_verifier.specs.Accepted.{HasNoCycle}
 use Rattle.plan_revise.specs.declared.change.Change.{Change}
-use Rattle.plan_revise.specs.declared.change.Change.TheVariants.{Until, Add, Scrap, Down, Route, Release, Budget}
+use Rattle.plan_revise.specs.declared.change.Change.TheVariants.{Until, Add, Scrap, Down, Route, Release, Budget, Hold}
 use Rattle.plan_revise.specs.Promises.{no_promise}
 use Rattle.plan_revise.specs.Ended.{with_job_ended}
 use Rattle.plan_revise.specs.Placed.{with_new_job, added}
@@ -34,6 +34,7 @@ use Rattle.plan_revise.proofs.SentOn.{all-no_cycle}
 use Rattle.plan_revise.proofs.DatesMoved.{coming-same, promised-same, coming-release, coming-others}
 use Rattle.plan_revise.proofs.PlacedParts.{SameVisits, same-visits, same-stands_back, same-visits_back, default_more, with_job-same}
 use Rattle.plan_revise.proofs.Keeping.{moves_given, unentered, once_keep}
+use Rattle.plan_revise.proofs.Holds.{bare-same, held-jobs, held-no_cycle}
 use Rattle.alt_graph.proofs.ClosedWalks.{no_cycle_by_ways}
 use Rattle.plan_revise.proofs.EndedArcs.{ended-no_cycle, once-path}
 use Rattle.plan_revise.proofs.PlacedArcs.{placed-no_cycle, placed-path}
@@ -144,6 +145,7 @@ module _ (s : RevisionSetting) (is : IsSetting s) where
   ]
   becomes-no_cycle p (Release j moment) q revision made acyclic = subst HasNoCycle (sym made.is) (same-no_cycle p (coming_by p j moment) (coming-same p j moment) acyclic)
   becomes-no_cycle p (Budget j moment) q revision made acyclic = subst HasNoCycle (sym made.is) (same-no_cycle p (promised_by p j moment) (promised-same p j moment) acyclic)
+  becomes-no_cycle p (Hold machine to) q revision made acyclic = subst HasNoCycle (sym made.is) (held-no_cycle s is p revision made.few_jobs made.in_range machine (to - s.present) made.in_plant (same-no_cycle p (added p [] s.present no_promise) (bare-same p s.present) acyclic))
 
   -- ---- who is put aside stays so
 
@@ -203,6 +205,7 @@ module _ (s : RevisionSetting) (is : IsSetting s) where
       record { within = omega (arith, ap length same, visits.within); here = ap (λ (r : List Step). (step_at r 0).machine) same ∙ visits.here }
   becomes-stays p (Release j moment) q i spares revision made inside visits = subst (λ (q : PlannedShop). Visits q i 0 s.plant) (sym made.is) (same-visits p (coming_by p j moment) (coming-same p j moment) i 0 s.plant visits)
   becomes-stays p (Budget j moment) q i spares revision made inside visits = subst (λ (q : PlannedShop). Visits q i 0 s.plant) (sym made.is) (same-visits p (promised_by p j moment) (promised-same p j moment) i 0 s.plant visits)
+  becomes-stays p (Hold machine to) q i spares revision made inside visits = absurd spares
 
   -- no job is taken away
   pub becomes-more_jobs : (p : PlannedShop) (change : Change) (q : PlannedShop) → IsRevision s p → IsChangedTo s p change q → jobs p ≤ jobs q
@@ -214,6 +217,7 @@ module _ (s : RevisionSetting) (is : IsSetting s) where
   becomes-more_jobs p (Route j words) q revision made = omega (arith, (rerouted-one s is p j words.now q revision made).jobs_same)
   becomes-more_jobs p (Release j moment) q revision made = omega (arith, ap jobs made.is)
   becomes-more_jobs p (Budget j moment) q revision made = omega (arith, ap jobs made.is)
+  becomes-more_jobs p (Hold machine to) q revision made = omega (arith, ap jobs made.is, held-jobs s p machine (to - s.present))
 
   -- ---- nobody else is later, by one cell of all these plans
 
@@ -319,3 +323,4 @@ module _ (s : RevisionSetting) (is : IsSetting s) where
         ]
     becomes_path p (Budget j moment) q nodes v size spares revision made path free there =
         same-path p (promised_by p j moment) (promised-same p j moment) (λ i k. refl) (λ m. refl) (λ i. omega arith) c t nodes v size (subst (λ (q : PlannedShop). PathAhead q c t nodes v size) made.is path) there
+    becomes_path p (Hold machine to) q nodes v size spares revision made path free there = absurd spares

@@ -1,15 +1,15 @@
 -- What a change makes fits again, and keeps the run so far.
 use Rattle.std.proofs.Common.{◌≡◌, ◌≢◌, ℕ, zero, suc, ◌+◌, ◌<◌, ◌≤◌, ◌⊎◌, inl, inr, List, [], ◌∷◌, ◌++◌, take, length, get_or, min, max, Option, None, Some, Bool, if◌then◌else◌, refl, sym, ap, ◌∙◌, subst, arith, length-append, add-one, ◌-◌}
 use Rattle.std.proofs.lemmas.Bool.{cases_eq, eq-eqb, ne_eqb, cases_lt, le-ltb}
-use Rattle.std.proofs.lemmas.List.{length-set, get_or_past, length-take}
+use Rattle.std.proofs.lemmas.List.{length-set, length-take}
 use Rattle.shop_base.specs.declared.shop.Step.{Step}
 use Rattle.shop_base.specs.declared.limits.TheConstants.{MAX_JOBS, MAX_RELEASE, MAX_MOMENT}
-use Rattle.shop_base.specs.Shop.{IsRoute, IsSoundStep, step_at}
+use Rattle.shop_base.specs.Shop.{IsRoute, step_at}
 use Rattle.shop_base.specs.Plan.{PlannedShop, jobs, machines, route, steps, release, budget, clean, Visits}
 use Rattle.shop_base.specs.Cell.{made, since}
 use Rattle.shop_base.proofs.Visits.{visits_job}
 use Rattle.plan_revise.specs.declared.change.Change.{Change}
-use Rattle.plan_revise.specs.declared.change.Change.TheVariants.{Until, Add, Scrap, Down, Route, Release, Budget}
+use Rattle.plan_revise.specs.declared.change.Change.TheVariants.{Until, Add, Scrap, Down, Route, Release, Budget, Hold}
 use Rattle.plan_revise.specs.Promises.{no_promise}
 use Rattle.plan_revise.specs.Ended.{with_job_ended}
 use Rattle.plan_revise.specs.Placed.{with_new_job, with_new_machine, added}
@@ -25,9 +25,10 @@ use Rattle.plan_revise.specs.AnotherWay.{way_on, sent_outside, IsSentInside, Are
 use Rattle.plan_revise.proofs.Fitting.{shaped_fits}
 use Rattle.plan_revise.proofs.Ways.{way_visits}
 use Rattle.plan_revise.proofs.EndedParts.{ended-ends, ended-fit}
-use Rattle.plan_revise.proofs.PlacedParts.{default_more, placed-places, placed-fit, SameVisits, with_job-same, with_job-fit, with_machine-same, with_machine-fit, with_machine-clean, lasting-lasts, lasting-same, lasting-fit}
+use Rattle.plan_revise.proofs.PlacedParts.{new-inside, new-none, placed-places, placed-fit, SameVisits, with_job-same, with_job-fit, with_machine-same, with_machine-fit, with_machine-clean, lasting-lasts, lasting-same, lasting-fit}
 use Rattle.plan_revise.proofs.DatesMoved.{coming-same, promised-same, coming-fit, promised-fit}
-use Rattle.plan_revise.proofs.SentOn.{wider-way, AreSentOn, all-sent}
+use Rattle.plan_revise.proofs.SentOn.{wider-way, one-way, AreSentOn, all-sent}
+use Rattle.plan_revise.proofs.Holds.{held-revision}
 use Rattle.plan_revise.proofs.Keeping.{moves_given, given_kept, ends_keep, places_keep, same_keep}
 
 -- what is given is a revision of itself
@@ -93,11 +94,7 @@ has_aside s p revision room = elim (cases_eq (machines p) s.plant) [
     }
 
 pub aside_way : (plant count : ℕ) (again : Bool) → plant < count → IsRoute count again (aside_route plant)
-aside_way plant count again less = record { visits_some = omega arith; few_steps = omega arith; steps = step }
-  where
-    step : (k : ℕ) → k < length (aside_route plant) → IsSoundStep count again (aside_route plant) k
-    step zero within = record { in_range = less; elsewhere = λ (i, next, same). absurd (omega (arith, next)); first_visit = λ once i before same. absurd (omega arith); nominal = omega arith }
-    step (suc k) within = absurd (omega arith)
+aside_way plant count again less = one-way count again (record { machine = plant; nominal = 0 }) less (omega arith)
 
 module _ (s : RevisionSetting) (p : PlannedShop) (j : ℕ) (is : IsSetting s) (revision : IsRevision s p) (inside : j < jobs p) (outside : moves_made s j ≡ 0) (room : HasRoom s p) where
   -- the parts by which it is put aside
@@ -278,12 +275,6 @@ module _ (s : RevisionSetting) (is : IsSetting s) where
     })
 
   module _ (p : PlannedShop) (r : List Step) (release budget : ℕ) (revision : IsRevision s p) (few : jobs p < MAX_JOBS) (sound : IsRoute s.plant p.shop.recirculates r) where
-    pub added_inside : jobs p < jobs (with_new_job p)
-    added_inside = omega (arith, length-append p.shop.routes ([] ∷ []))
-
-    pub added_none : route (with_new_job p) (jobs p) ≡ []
-    added_none = default_more p.shop.routes [] (jobs p) ∙ get_or_past p.shop.routes (jobs p) [] (omega arith)
-
     pub added_way : IsRoute (machines p) p.shop.recirculates r
     added_way = wider-way s p p.shop.recirculates r revision sound
 
@@ -291,17 +282,17 @@ module _ (s : RevisionSetting) (is : IsSetting s) where
     added_fit = with_job-fit p revision.fit few
 
     pub added_places : Places (with_new_job p) (jobs p) r release budget (added p r release budget)
-    added_places = placed-places (with_new_job p) (jobs p) r release budget added_fit added_inside added_none added_way
+    added_places = placed-places (with_new_job p) (jobs p) r release budget added_fit (new-inside p) (new-none p) added_way
 
     pub added-revision : release ≤ MAX_RELEASE → budget ≤ MAX_MOMENT → IsRevision s (added p r release budget)
     added-revision early in_range = record {
-      fit = placed-fit (with_new_job p) (jobs p) r release budget added_fit added_inside added_none added_way early in_range;
+      fit = placed-fit (with_new_job p) (jobs p) r release budget added_fit (new-inside p) (new-none p) added_way early in_range;
       some_step = λ j there. elim (cases_eq j (jobs p)) [
         | inl same ↦ omega (arith, ap (steps (added p r release budget)) same, ap length added_places.route_is, sound.visits_some)
         | inr other ↦ omega (arith, ap length (added_places.others j other), (with_job-same p).lengths j, revision.some_step j (omega (arith, added_places.jobs_but j there other, length-append p.shop.routes ([] ∷ []), other)))
       ];
       kept = places_keep s (with_new_job p) (jobs p) r release budget (added p r release budget)
-          (same_keep s p (with_new_job p) revision.kept (with_job-same p) (omega (arith, added_inside)) (λ m. refl)) added_places
+          (same_keep s p (with_new_job p) revision.kept (with_job-same p) (omega (arith, new-inside p)) (λ m. refl)) added_places
           (omega (arith, length-set (with_new_job p).shop.routes (jobs p) r)) (λ given. absurd (omega (arith, revision.kept.jobs_there)));
       no_fewer = revision.no_fewer;
       plant = revision.plant;
@@ -439,3 +430,4 @@ module _ (s : RevisionSetting) (is : IsSetting s) where
   becomes-revision p (Route j words) q revision made = (rerouted-one p j words.now q revision made).revision
   becomes-revision p (Release j moment) q revision made = subst (IsRevision s) (sym made.is) (same-revision p (coming_by p j moment) revision (coming-same p j moment) (coming-fit p j moment revision.fit made.in_line.in_shop made.in_range) refl refl (λ m. refl))
   becomes-revision p (Budget j moment) q revision made = subst (IsRevision s) (sym made.is) (same-revision p (promised_by p j moment) revision (promised-same p j moment) (promised-fit p j moment revision.fit made.in_line.in_shop made.in_range) refl refl (λ m. refl))
+  becomes-revision p (Hold machine to) q revision made = subst (IsRevision s) (sym made.is) (held-revision s is p revision made.few_jobs made.in_range machine (to - s.present) made.in_plant made.short)

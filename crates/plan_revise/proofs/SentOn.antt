@@ -1,5 +1,5 @@
 -- A job in the cell that is sent on step by step: the plan fits, the run so far is kept, and no cycle comes.
-use Rattle.std.proofs.Common.{◌≡◌, ◌≢◌, ℕ, zero, suc, None, Some, take, drop, add-one, ◌+◌, ◌-◌, ◌<◌, ◌≤◌, inl, inr, List, [], ◌∷◌, ◌++◌, length, Bool, refl, sym, ap, ◌∙◌, subst, arith, length-append, append_assoc}
+use Rattle.std.proofs.Common.{◌≡◌, ◌≢◌, ℕ, zero, suc, None, Some, take, drop, add-one, ◌+◌, ◌-◌, ◌<◌, ◌≤◌, ◌⊎◌, inl, inr, List, [], ◌∷◌, ◌++◌, length, Bool, refl, sym, ap, ◌∙◌, subst, arith, length-append, append_assoc}
 use Rattle.std.specs.Prelude.{insert, slice_get}
 use Rattle.std.proofs.lemmas.Option.{same_Some}
 use Rattle.std.proofs.lemmas.Bool.{cases_eq}
@@ -7,6 +7,7 @@ use Rattle.std.proofs.lemmas.List.{append-nil, get_or-append-add}
 use Rattle.std.proofs.lemmas.List.Edits.{insert-append_right}
 use Rattle.std.proofs.Math.ListN.{get_or-append}
 use Rattle.shop_base.specs.declared.shop.Step.{Step}
+use Rattle.shop_base.specs.declared.limits.TheConstants.{MAX_NOMINAL}
 use Rattle.shop_base.specs.Shop.{IsRoute, IsSoundStep, step_at, no_step}
 use Rattle.shop_base.specs.Plan.{PlannedShop, jobs, machines, route, steps, order, IsWellShaped}
 use Rattle.shop_base.specs.Cell.{entries}
@@ -14,7 +15,7 @@ use Rattle.shop_base.specs.Move.{IsPrefix}
 use Rattle.plan_verifier.specs.Accepted.{HasNoCycle}
 use Rattle.plan_revise.specs.Settings.{RevisionSetting, moves_made}
 use Rattle.plan_revise.specs.AnotherWay.{with_visit_at, IsOpenPlace, IsFurthestBehind, AreFurthestBehind}
-use Rattle.plan_revise.specs.Fits.{IsKept, IsRevision}
+use Rattle.plan_revise.specs.Fits.{IsFit, IsKept, IsRevision}
 use Rattle.plan_revise.specs.Answers.{IsSendable, HasPlace}
 use Rattle.plan_revise.proofs.Fitting.{fits_shaped}
 use Rattle.plan_revise.proofs.Inserted.{visit-jobs, visit-mine, visit-others, visit-order, visit-orders, visit-steps, visit-visits, visit-fit}
@@ -22,14 +23,26 @@ use Rattle.plan_revise.proofs.Keeping.{moves_given}
 
 -- ---- routes
 
--- a route over the machines of the plant is one over those of the shop
-pub wider-way : (s : RevisionSetting) (p : PlannedShop) (again : Bool) (r : List Step) → IsRevision s p → IsRoute s.plant again r → IsRoute (machines p) again r
-wider-way s p again r revision sound = record { visits_some = sound.visits_some; few_steps = sound.few_steps; steps = step }
+-- a route over some machines is one over more
+more-machines : (few many : ℕ) (again : Bool) (r : List Step) → few ≤ many → IsRoute few again r → IsRoute many again r
+more-machines few many again r le sound = record { visits_some = sound.visits_some; few_steps = sound.few_steps; steps = step }
   where
-    step : (k : ℕ) → k < length r → IsSoundStep (machines p) again r k
+    step : (k : ℕ) → k < length r → IsSoundStep many again r k
     step k less =
         let one = sound.steps k less in
-        record { in_range = elim revision.plant [ inl same ↦ omega (arith, one.in_range) | inr more ↦ omega (arith, one.in_range) ]; elsewhere = one.elsewhere; first_visit = one.first_visit; nominal = one.nominal }
+        record { in_range = omega (arith, le, one.in_range); elsewhere = one.elsewhere; first_visit = one.first_visit; nominal = one.nominal }
+
+-- a route over the machines of the plant is one over those of the shop
+pub wider-way : (s : RevisionSetting) (p : PlannedShop) (again : Bool) (r : List Step) → IsRevision s p → IsRoute s.plant again r → IsRoute (machines p) again r
+wider-way s p again r revision sound = more-machines s.plant (machines p) again r (elim revision.plant [ inl same ↦ omega arith | inr more ↦ omega arith ]) sound
+
+-- one sound step is a route
+pub one-way : (count : ℕ) (again : Bool) (step : Step) → step.machine < count → step.nominal ≤ MAX_NOMINAL → IsRoute count again (step ∷ [])
+one-way count again step less short = record { visits_some = omega arith; few_steps = omega arith; steps = sound }
+  where
+    sound : (k : ℕ) → k < length (step ∷ []) → IsSoundStep count again (step ∷ []) k
+    sound zero within = record { in_range = less; elsewhere = λ (i, next, same). absurd (omega (arith, next)); first_visit = λ once i before same. absurd (omega arith); nominal = short }
+    sound (suc k) within = absurd (omega arith)
 
 -- the front of a route is one
 pub front-way : (count : ℕ) (again : Bool) (xs ys : List Step) → 0 < length xs → IsRoute count again (xs ++ ys) → IsRoute count again xs
@@ -67,43 +80,57 @@ next_step (x ∷ way) (suc n) step there = next_step way n step there
 
 -- ---- one visit more
 
-module _ (s : RevisionSetting) (p : PlannedShop) (j : ℕ) (step : Step) (a : ℕ) (revision : IsRevision s p) (inside : j < jobs p) (here : moves_made s j ≤ steps p j) (sound : IsRoute s.plant p.shop.recirculates (route p j ++ step ∷ [])) (free : IsOpenPlace s p j step.machine a) where
+-- a revision, but that job j's route may have no step yet
+pub record IsRevisionBut (s : RevisionSetting) (p : PlannedShop) (j : ℕ) : Type 0 where
+  pub fit : IsFit p
+  pub some_step : (i : ℕ) → i < jobs p → i ≢ j → 0 < steps p i
+  pub kept : IsKept s p
+  pub no_fewer : machines s.given ≤ machines p
+  pub plant : (machines p ≡ s.plant) ⊎ (machines p ≡ s.plant + 1)
+
+module _ (s : RevisionSetting) (p : PlannedShop) (j : ℕ) (step : Step) (a : ℕ) (but : IsRevisionBut s p j) (inside : j < jobs p) (here : moves_made s j ≤ steps p j) (sound : IsRoute s.plant p.shop.recirculates (route p j ++ step ∷ [])) (free : IsOpenPlace s p j step.machine a) where
+  wider : IsRoute (machines p) p.shop.recirculates (route p j ++ step ∷ [])
+  wider = more-machines s.plant (machines p) p.shop.recirculates (route p j ++ step ∷ []) (elim but.plant [ inl same ↦ omega arith | inr more ↦ omega arith ]) sound
+
   in_shop : step.machine < machines p
-  in_shop = last-machine (machines p) p.shop.recirculates (route p j) step (wider-way s p p.shop.recirculates (route p j ++ step ∷ []) revision sound)
+  in_shop = last-machine (machines p) p.shop.recirculates (route p j) step wider
 
   visit-kept : IsKept s (with_visit_at p j step a)
   visit-kept = record {
-    jobs_there = omega (arith, revision.kept.jobs_there, visit-jobs p j step a);
-    entered = λ i k moved visits. visit-visits p j step a inside i k _ (revision.kept.entered i k moved visits);
+    jobs_there = omega (arith, but.kept.jobs_there, visit-jobs p j step a);
+    entered = λ i k moved visits. visit-visits p j step a inside i k _ (but.kept.entered i k moved visits);
     left = λ i given gone. elim (cases_eq i j) [
-      | inl same ↦ absurd (omega (arith, gone, revision.kept.left i given gone, ap (steps p) same, here, ap (moves_made s) same, moves_given s i given))
-      | inr other ↦ ap length (visit-others p j step a i other) ∙ revision.kept.left i given gone
+      | inl same ↦ absurd (omega (arith, gone, but.kept.left i given gone, ap (steps p) same, here, ap (moves_made s) same, moves_given s i given))
+      | inr other ↦ ap length (visit-others p j step a i other) ∙ but.kept.left i given gone
     ];
     begun = λ m given. elim (cases_eq m step.machine) [
-      | inl same ↦ subst (λ m. IsPrefix (entries s.cell m) (order (with_visit_at p j step a) m)) (sym same) (first (subst (λ m. IsPrefix (entries s.cell m) (order p m)) same (revision.kept.begun m given)))
-      | inr other ↦ (let prefix = revision.kept.begun m given in (prefix.0, visit-orders p j step a m other ∙ prefix.1))
+      | inl same ↦ subst (λ m. IsPrefix (entries s.cell m) (order (with_visit_at p j step a) m)) (sym same) (first (subst (λ m. IsPrefix (entries s.cell m) (order p m)) same (but.kept.begun m given)))
+      | inr other ↦ (let prefix = but.kept.begun m given in (prefix.0, visit-orders p j step a m other ∙ prefix.1))
     ];
-    cleaned = revision.kept.cleaned;
+    cleaned = but.kept.cleaned;
   }
     where
       first : IsPrefix (entries s.cell step.machine) (order p step.machine) → IsPrefix (entries s.cell step.machine) (order (with_visit_at p j step a) step.machine)
       first prefix = (
         insert prefix.0 (a - length (entries s.cell step.machine)) j,
-        visit-order p j step a (omega (arith, in_shop, revision.fit.counts.orders)) ∙ ap (λ (xs : List ℕ). insert xs a j) prefix.1
+        visit-order p j step a (omega (arith, in_shop, but.fit.counts.orders)) ∙ ap (λ (xs : List ℕ). insert xs a j) prefix.1
             ∙ insert-append_right (entries s.cell step.machine) prefix.0 (length (entries s.cell step.machine)) a j refl free.behind_entries,
       )
 
-  pub visit-revision : IsRevision s (with_visit_at p j step a)
-  visit-revision = record {
-    fit = visit-fit p j step a inside revision.fit in_shop free.within (wider-way s p p.shop.recirculates (route p j ++ step ∷ []) revision sound);
+  pub longer-revision : IsRevision s (with_visit_at p j step a)
+  longer-revision = record {
+    fit = visit-fit p j step a inside but.fit in_shop free.within wider;
     some_step = λ i there. elim (cases_eq i j) [
       | inl same ↦ omega (arith, ap (steps (with_visit_at p j step a)) same, visit-steps p j step a inside)
-      | inr other ↦ omega (arith, ap length (visit-others p j step a i other), revision.some_step i (omega (arith, visit-jobs p j step a)))
+      | inr other ↦ omega (arith, ap length (visit-others p j step a i other), but.some_step i (omega (arith, visit-jobs p j step a)) other)
     ];
     kept = visit-kept;
-    no_fewer = revision.no_fewer;
-    plant = revision.plant;
+    no_fewer = but.no_fewer;
+    plant = but.plant;
   }
+
+pub visit-revision : (s : RevisionSetting) (p : PlannedShop) (j : ℕ) (step : Step) (a : ℕ) → IsRevision s p → j < jobs p → moves_made s j ≤ steps p j → IsRoute s.plant p.shop.recirculates (route p j ++ step ∷ []) → IsOpenPlace s p j step.machine a → IsRevision s (with_visit_at p j step a)
+visit-revision s p j step a revision = longer-revision s p j step a (record { fit = revision.fit; some_step = λ i there other. revision.some_step i there; kept = revision.kept; no_fewer = revision.no_fewer; plant = revision.plant })
 
 -- where a job can make a step, each open place is one of its order
 pub open-place : (s : RevisionSetting) (p : PlannedShop) (j : ℕ) (step : Step) (a : ℕ) → IsSendable s p j step → IsOpenPlace s p j step.machine a → HasPlace p j step a

@@ -15,7 +15,7 @@ use Rattle.shop_base.proofs.Keeping.{run-sound}
 use Rattle.shop_base.proofs.Visits.{visits_job, visits_or_not}
 use Rattle.cell_tables.specs.KeptLaw.{AKeptRunIsOneOfTheOtherPlan}
 use Rattle.plan_revise.specs.declared.change.Change.{Change}
-use Rattle.plan_revise.specs.declared.change.Change.TheVariants.{Until, Add, Scrap, Down, Route, Release, Budget}
+use Rattle.plan_revise.specs.declared.change.Change.TheVariants.{Until, Add, Scrap, Down, Route, Release, Budget, Hold}
 use Rattle.plan_revise.specs.Ended.{with_job_ended}
 use Rattle.plan_revise.specs.Settings.{RevisionSetting, setting, moves_made}
 use Rattle.plan_revise.specs.Aside.{HasRoom, put_aside}
@@ -110,6 +110,7 @@ module _ (s : RevisionSetting) (is : IsSetting s) (c : Cell) (top : ℕ) (moved 
     sound = promised_sound s is c top moved p j moment revision.fit made.in_line;
     rises = λ i inside. promised_more s is c top moved p j moment revision.fit made.in_line.in_shop late i;
   })
+  becomes_step p (Hold machine to) q less revision made few = absurd less
 
   made_step : (p : PlannedShop) (changes : List Change) (q : PlannedShop) → AreAll AsksNoMore s p changes → IsRevision s p → AreMade s p changes q → jobs q ≤ top → IsStep s p q
   made_step p [] q stops revision made few = subst (IsStep s p) (sym made) (no_step s p)

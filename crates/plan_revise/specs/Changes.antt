@@ -4,14 +4,15 @@ use Rattle.shop_base.specs.declared.limits.TheConstants.{MAX_JOBS, MAX_NOMINAL, 
 use Rattle.shop_base.specs.declared.shop.Step.{Step}
 use Rattle.shop_base.specs.Shop.{IsRoute}
 use Rattle.shop_base.specs.Plan.{PlannedShop, jobs, route, machine_of, Visits}
-use Rattle.shop_base.specs.Cell.{since}
+use Rattle.shop_base.specs.Cell.{since, IsFree}
 use Rattle.orlib_read.specs.Kinds.{first_line, IsJobLine}
 use Rattle.plan_revise.specs.declared.change.Change.{Change}
-use Rattle.plan_revise.specs.declared.change.Change.TheVariants.{Until, Add, Scrap, Down, Route, Release, Budget}
+use Rattle.plan_revise.specs.declared.change.Change.TheVariants.{Until, Add, Scrap, Down, Route, Release, Budget, Hold}
 use Rattle.plan_revise.specs.Promises.{no_promise}
 use Rattle.plan_revise.specs.Placed.{added}
 use Rattle.plan_revise.specs.Dates.{coming_by, promised_by}
 use Rattle.plan_revise.specs.AnotherWay.{way_on, sent_outside, IsSentInside}
+use Rattle.plan_revise.specs.Held.{held}
 use Rattle.plan_revise.specs.Settings.{RevisionSetting, moves_made, HasLeftCell, HasArrived, OperationGoesOn}
 use Rattle.plan_revise.specs.Aside.{IsInLine, CanGoOn, HasRoom}
 use Rattle.plan_revise.specs.Stopped.{stopped, without_machine}
@@ -83,6 +84,16 @@ module _ (s : RevisionSetting) (p : PlannedShop) where
     pub in_range : moment ≤ MAX_MOMENT
     pub is : q ≡ promised_by p j moment
 
+  -- a job more holds the machine, on which no job is, from the present moment to another
+  pub record IsHeld (machine to : ℕ) (q : PlannedShop) : Type 0 where
+    pub in_plant : machine < s.plant
+    pub free : IsFree s.given s.cell machine
+    pub few_jobs : jobs p < MAX_JOBS
+    pub in_range : s.present ≤ MAX_RELEASE
+    pub not_past : s.present ≤ to
+    pub short : to - s.present ≤ MAX_NOMINAL
+    pub is : q ≡ held s p machine (to - s.present)
+
   -- what the change makes of the shop and its plan
   abbrev pub IsChangedTo : Change → PlannedShop → Type 0
   IsChangedTo (Until machine to) q = IsProlonged machine to q
@@ -92,3 +103,4 @@ module _ (s : RevisionSetting) (p : PlannedShop) where
   IsChangedTo (Route j words) q = IsRerouted j words.now q
   IsChangedTo (Release j moment) q = IsReleaseMoved j moment q
   IsChangedTo (Budget j moment) q = IsPromiseMoved j moment q
+  IsChangedTo (Hold machine to) q = IsHeld machine to q

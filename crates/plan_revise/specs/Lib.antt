@@ -8,6 +8,7 @@ pub mod Aside
 pub mod Stopped
 pub mod Dates
 pub mod AnotherWay
+pub mod Held
 pub mod Routes
 pub mod Changes
 pub mod Refusals
@@ -20,4 +21,5 @@ pub mod RevisedLaw
 pub mod Fits
 pub mod Answers
 pub mod Parts
+pub mod Reaching
 pub mod Stages

@@ -1,12 +1,13 @@
 -- The names of faults.
 use Rattle.std.specs.Prelude.{ℕ, List, codes}
 use Rattle.plan_revise.specs.declared.change.ChangeFault.{ChangeFault}
-use Rattle.plan_revise.specs.declared.change.ChangeFault.TheVariants.{MachineOutOfRange, Idle, TooSoon, NominalTooLarge, OddWords, BadNumber, TooManyJobs, EmptyRoute, TooManySteps, MachineTwice, ReleaseTooLarge, BudgetTooLarge, JobOutOfRange, JobGone, JobAside, JobArrived, TooManyMachines, Locks}
+use Rattle.plan_revise.specs.declared.change.ChangeFault.TheVariants.{MachineOutOfRange, Idle, Occupied, TooSoon, NominalTooLarge, OddWords, BadNumber, TooManyJobs, EmptyRoute, TooManySteps, MachineTwice, ReleaseTooLarge, BudgetTooLarge, JobOutOfRange, JobGone, JobAside, JobArrived, TooManyMachines, Locks}
 
 -- the name of a fault
 abbrev pub change_fault_name : ChangeFault → List ℕ
 change_fault_name MachineOutOfRange = codes "MachineOutOfRange"
 change_fault_name Idle = codes "Idle"
+change_fault_name Occupied = codes "Occupied"
 change_fault_name TooSoon = codes "TooSoon"
 change_fault_name NominalTooLarge = codes "NominalTooLarge"
 change_fault_name OddWords = codes "OddWords"

@@ -4,14 +4,14 @@ use Rattle.shop_base.specs.declared.limits.TheConstants.{MAX_JOBS, MAX_NOMINAL, 
 use Rattle.shop_base.specs.declared.shop.Step.{Step}
 use Rattle.shop_base.specs.Shop.{IsRoute}
 use Rattle.shop_base.specs.Plan.{PlannedShop, jobs, Visits}
-use Rattle.shop_base.specs.Cell.{since}
+use Rattle.shop_base.specs.Cell.{since, IsFree}
 use Rattle.orlib_read.specs.declared.or_fault.OrFault.{OrFault}
 use Rattle.orlib_read.specs.Kinds.{first_line, IsJobLine}
 use Rattle.orlib_read.specs.Faults.{IsOddLine, IsWordLine}
 use Rattle.plan_revise.specs.declared.change.Change.{Change}
-use Rattle.plan_revise.specs.declared.change.Change.TheVariants.{Until, Add, Scrap, Down, Route, Release, Budget}
+use Rattle.plan_revise.specs.declared.change.Change.TheVariants.{Until, Add, Scrap, Down, Route, Release, Budget, Hold}
 use Rattle.plan_revise.specs.declared.change.ChangeFault.{ChangeFault}
-use Rattle.plan_revise.specs.declared.change.ChangeFault.TheVariants.{MachineOutOfRange, Idle, TooSoon, NominalTooLarge, OddWords, BadNumber, TooManyJobs, ReleaseTooLarge, BudgetTooLarge, JobOutOfRange, JobGone, JobAside, JobArrived, TooManyMachines, Locks}
+use Rattle.plan_revise.specs.declared.change.ChangeFault.TheVariants.{MachineOutOfRange, Idle, Occupied, TooSoon, NominalTooLarge, OddWords, BadNumber, TooManyJobs, ReleaseTooLarge, BudgetTooLarge, JobOutOfRange, JobGone, JobAside, JobArrived, TooManyMachines, Locks}
 use Rattle.plan_revise.specs.Promises.{no_promise}
 use Rattle.plan_revise.specs.Settings.{RevisionSetting, moves_made, HasLeftCell, HasArrived, OperationGoesOn}
 use Rattle.plan_revise.specs.Aside.{IsPutAside, IsInLine, CanGoOn, HasRoom}
@@ -133,6 +133,22 @@ module _ (s : RevisionSetting) (p : PlannedShop) where
   IsRerouteFault j words BadNumber = CanGoOn s p j × IsJobLineFault words BadNumber
   IsRerouteFault j words fault = IsReadWayFault j words fault
 
+  -- no job is on the machine of the plant, and there may be a job more
+  pub record CanBeHeld (machine : ℕ) : Type 0 where
+    pub in_plant : machine < s.plant
+    pub free : IsFree s.given s.cell machine
+    pub few_jobs : jobs p < MAX_JOBS
+
+  -- a machine can't be held until a moment
+  abbrev pub IsHoldFault : ℕ → ℕ → ChangeFault → Type 0
+  IsHoldFault machine to MachineOutOfRange = s.plant ≤ machine
+  IsHoldFault machine to Occupied = (machine < s.plant) × (IsFree s.given s.cell machine → ⊥)
+  IsHoldFault machine to TooManyJobs = (machine < s.plant) × IsFree s.given s.cell machine × (MAX_JOBS ≤ jobs p)
+  IsHoldFault machine to ReleaseTooLarge = CanBeHeld machine × (MAX_RELEASE < s.present)
+  IsHoldFault machine to TooSoon = CanBeHeld machine × (s.present ≤ MAX_RELEASE) × (to < s.present)
+  IsHoldFault machine to NominalTooLarge = CanBeHeld machine × (s.present ≤ MAX_RELEASE) × (s.present ≤ to) × (MAX_NOMINAL < to - s.present)
+  IsHoldFault machine to fault = ⊥
+
   -- the change can't be, and this is the first reason
   abbrev pub IsRefusedChange : Change → ChangeFault → Type 0
   IsRefusedChange (Until machine to) fault = IsUntilFault machine to fault
@@ -142,3 +158,4 @@ module _ (s : RevisionSetting) (p : PlannedShop) where
   IsRefusedChange (Route j words) fault = IsRerouteFault j words.now fault
   IsRefusedChange (Release j moment) fault = IsReleaseFault j moment fault
   IsRefusedChange (Budget j moment) fault = IsBudgetFault j moment fault
+  IsRefusedChange (Hold machine to) fault = IsHoldFault machine to fault

@@ -1,20 +1,21 @@
--- The laws of revised plans: the run so far stays a run, no cycle comes, and nobody else is later.
-use Rattle.std.specs.Prelude.{ℕ, ◌<◌, ◌≤◌, List, [], ◌∷◌, ◌++◌}
+-- The laws of revised plans: the run so far stays a run, no cycle comes, and who is later by how much.
+use Rattle.std.specs.Prelude.{◌≡◌, ◌↔◌, ℕ, ◌+◌, ◌-◌, ◌<◌, ◌≤◌, List, [], ◌∷◌, ◌++◌}
 use Rattle.shop_base.specs.declared.limits.TheConstants.{MAX_MOMENT}
 use Rattle.shop_base.specs.declared.node.Node.{Node}
-use Rattle.shop_base.specs.Plan.{PlannedShop, jobs, Visits, IsWellShaped}
+use Rattle.shop_base.specs.Plan.{PlannedShop, jobs, clean, Visits, IsWellShaped}
 use Rattle.shop_base.specs.Cell.{made}
 use Rattle.shop_base.specs.Run.{Event, IsRun, ends_in}
 use Rattle.shop_base.specs.Graph.{node, leaving, IsNode, RanksRise}
-use Rattle.shop_base.specs.Ahead.{PathAhead, IsAhead}
+use Rattle.shop_base.specs.Ahead.{PathAhead, IsAhead, MomentsFitAhead}
 use Rattle.shop_base.specs.Deadlines.{AreDeadlines}
 use Rattle.plan_verifier.specs.Accepted.{HasNoCycle}
 use Rattle.plan_verifier.specs.RestVerdicts.{IsAcceptableAhead}
 use Rattle.cell_tables.specs.Carried.{IsCarried}
 use Rattle.plan_revise.specs.declared.change.Change.{Change}
-use Rattle.plan_revise.specs.declared.change.Change.TheVariants.{Down}
+use Rattle.plan_revise.specs.declared.change.Change.TheVariants.{Down, Hold}
 use Rattle.plan_revise.specs.Settings.{setting}
 use Rattle.plan_revise.specs.Aside.{IsPlantOf, IsPutAside}
+use Rattle.plan_revise.specs.Held.{IsEntryAtOnce, WaitForHold}
 use Rattle.plan_revise.specs.Revised.{IsRevisedWithin}
 use Rattle.plan_revise.specs.Effects.{AreAll, SparesJob, AsksNoMore}
 use Rattle.plan_revise.specs.Paths.{HasLonger}
@@ -40,7 +41,7 @@ pub record IsNoLater (p : PlannedShop) (es : List Event) (t : ℕ) (q : PlannedS
   pub leaves : (nodes : List Node) (n : ℕ) → PathAhead q (ends_in q es) t nodes (leaving q j) n → HasLonger p (ends_in p es) t (leaving p j) n
   pub moves : (k : ℕ) (nodes : List Node) (n : ℕ) → PathAhead q (ends_in q es) t nodes (node j k) n → HasLonger p (ends_in p es) t (node j k) n
 
--- where nothing lasts longer, no job comes later, and only other jobs outside go another way, a job that was there and isn't put aside is no later, whatever is added, scrapped or down, and whatever is promised
+-- where nothing lasts longer, no job comes later, no machine is held, and only other jobs outside go another way, a job that was there and isn't put aside is no later, whatever is added, scrapped or down, and whatever is promised
 abbrev pub NobodyElseIsLater : Type 0
 NobodyElseIsLater = (p q : PlannedShop) (es : List Event) (t plant : ℕ) (changes : List Change) → IsRevisedRun p es t plant changes q
     → (j : ℕ) → AreAll (SparesJob (setting p (ends_in p es) t plant) j) (setting p (ends_in p es) t plant) p changes → j < jobs p → (IsPutAside plant q j → ⊥) → IsNoLater p es t q j
@@ -66,3 +67,20 @@ NoDeadlineComesSooner = (p q : PlannedShop) (es : List Event) (t plant : ℕ) (c
 abbrev pub RevisedRestsStayAccepted : Type 0
 RevisedRestsStayAccepted = (p q : PlannedShop) (es : List Event) (t plant : ℕ) (changes : List Change) → IsRevisedRun p es t plant changes q → AreAll AsksNoMore (setting p (ends_in p es) t plant) p changes → t ≤ MAX_MOMENT
     → IsAcceptableAhead p (ends_in p es) t → IsAcceptableAhead q (ends_in q es) t
+
+-- this run is revised where a machine is held until a moment, and goes on by these events, the entry of the job more
+pub record IsHeldRun (p : PlannedShop) (es : List Event) (t plant machine to : ℕ) (q : PlannedShop) (entry : List Event) : Type 0 where
+  pub revised : IsRevisedRun p es t plant (Hold machine to ∷ []) q
+  pub is_entry : IsEntryAtOnce machine (jobs p) t entry
+  pub run : IsRun q (es ++ entry)
+
+-- then moments fit what is ahead exactly where they fitted it before, and the machine's next entry waits until the job more has held it and it is cleaned: nothing else waits but through that entry
+abbrev pub AHeldMachineHoldsUpItsNextEntry : Type 0
+AHeldMachineHoldsUpItsNextEntry = (p q : PlannedShop) (es : List Event) (t plant machine to : ℕ) (entry : List Event) → IsHeldRun p es t plant machine to q entry
+    → (kept : Node → ℕ) → MomentsFitAhead q (ends_in q (es ++ entry)) t kept ↔ (MomentsFitAhead p (ends_in p es) t kept × WaitForHold p (ends_in p es) machine to kept)
+
+-- so nobody else is later by more than the time from now to the end of the hold, and the cleaning time: the moments that fitted fit again, each so much later
+abbrev pub NobodyIsLaterByMoreThanTheHold : Type 0
+NobodyIsLaterByMoreThanTheHold = (p q : PlannedShop) (es : List Event) (t plant machine to : ℕ) (entry : List Event) → IsHeldRun p es t plant machine to q entry
+    → (kept : Node → ℕ) → MomentsFitAhead p (ends_in p es) t kept
+    → (later : Node → ℕ) × MomentsFitAhead q (ends_in q (es ++ entry)) t later × ((v : Node) → v.job < jobs p → later v ≡ kept v + (to - t + clean p machine))

@@ -66,7 +66,7 @@ impl Draft {
     }
 
     /// Adds a job with this route.
-    fn place_new(
+    pub(crate) fn place_new(
         &mut self,
         alloc: Global,
         route: Vec<Step>,

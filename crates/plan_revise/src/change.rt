@@ -48,6 +48,13 @@ pub enum Change<'a> {
         job: JobNo,
         budget: Moment,
     },
+    /// A new job with the next number holds the machine, on which no job is, from the present moment to this one: its route
+    /// is the machine, its release the present moment, it has no promise, and it is next in the machine's order. That it
+    /// comes and enters is for the run to tell.
+    Hold {
+        machine: MachineNo,
+        to: Moment,
+    },
 }
 
 /// Why a change can't be: the first reason, in the order in which those of its kind are answered.
@@ -59,7 +66,10 @@ pub enum ChangeFault {
     /// No operation goes on on the machine.
     #[error("Idle")]
     Idle,
-    /// The operation is said to end before the present moment.
+    /// A job is on the machine.
+    #[error("Occupied")]
+    Occupied,
+    /// The operation, or the hold, is said to end before the present moment.
     #[error("TooSoon")]
     TooSoon,
     /// The nominal time of a step would be over the limit.
@@ -117,6 +127,7 @@ impl ChangeFault {
         match self {
             ChangeFault::MachineOutOfRange => "MachineOutOfRange",
             ChangeFault::Idle => "Idle",
+            ChangeFault::Occupied => "Occupied",
             ChangeFault::TooSoon => "TooSoon",
             ChangeFault::NominalTooLarge => "NominalTooLarge",
             ChangeFault::OddWords => "OddWords",

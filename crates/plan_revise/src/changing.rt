@@ -36,6 +36,7 @@ impl Draft {
             Change::Route { job, route } => self.reroute(alloc, run, job, route),
             Change::Release { job, release } => self.move_release(run, job, release),
             Change::Budget { job, budget } => self.move_budget(run, job, budget),
+            Change::Hold { machine, to } => self.hold(alloc, run, machine, to),
         }
     }
 

@@ -4,7 +4,8 @@
 
 ghost use Rattle.plan_revise.specs.RevisedLaw.{TheRunSoFarStays, NoCycleComes, NobodyElseIsLater};
 ghost use Rattle.plan_revise.specs.RevisedLaw.{NoPartComesToAMachineThatIsDown, NoDeadlineComesSooner};
-ghost use Rattle.plan_revise.specs.RevisedLaw.{RevisedRestsStayAccepted};
+ghost use Rattle.plan_revise.specs.RevisedLaw.{RevisedRestsStayAccepted, AHeldMachineHoldsUpItsNextEntry};
+ghost use Rattle.plan_revise.specs.RevisedLaw.{NobodyIsLaterByMoreThanTheHold};
 
 use cell_tables::laws::a_kept_run_is_one_of_the_other_plan;
 
@@ -21,8 +22,9 @@ pub fn no_cycle_comes()
     ensures { NoCycleComes }
 {}
 
-/// Where no operation is said to last longer, and no job to come later, no job that was there and isn't put aside is
-/// later for the changes: its earliest leaving is at most what it was, and so is each of its moves that both plans have.
+/// Where no operation is said to last longer, no job to come later, no machine is held, and only jobs outside go another
+/// way, no other job that was there and isn't put aside is later for the changes: its earliest leaving is at most what it
+/// was, and so is each of its moves that both plans have.
 pub fn nobody_else_is_later()
     ensures { NobodyElseIsLater }
 {
@@ -49,6 +51,23 @@ pub fn no_deadline_comes_sooner()
 /// accepted stays so.
 pub fn accepted_rests_stay_accepted()
     ensures { RevisedRestsStayAccepted }
+{
+    a_kept_run_is_one_of_the_other_plan();
+}
+
+/// Where a machine is held, and the run goes on by the entry of the job that holds it, moments fit the rest exactly where
+/// they fitted it before, and the machine's next entry waits for the end of the hold and the cleaning. So each other move
+/// has the earliest moment that it had if that entry couldn't come sooner.
+pub fn a_held_machine_holds_up_its_next_entry()
+    ensures { AHeldMachineHoldsUpItsNextEntry }
+{
+    a_kept_run_is_one_of_the_other_plan();
+}
+
+/// Where a machine is held, nobody else is later by more than the time from now to the end of the hold, and the cleaning
+/// time: the moments that fitted the rest fit it again, each so much later.
+pub fn nobody_is_later_by_more_than_the_hold()
+    ensures { NobodyIsLaterByMoreThanTheHold }
 {
     a_kept_run_is_one_of_the_other_plan();
 }

@@ -17,7 +17,8 @@ use std::alloc::Global;
 /// stays as it is. With no change the answer is a copy of it.
 ///
 /// Whoever has changes of several kinds gives all [`Change::Until`] first, then all [`Change::Add`], all
-/// [`Change::Route`], all [`Change::Release`], all [`Change::Budget`], all [`Change::Scrap`] and all [`Change::Down`].
+/// [`Change::Route`], all [`Change::Release`], all [`Change::Budget`], all [`Change::Hold`], all [`Change::Scrap`] and all
+/// [`Change::Down`]. Behind a [`Change::Hold`] the run has to say that its job has entered before it is changed again.
 pub fn revise<P: Planned>(
     alloc: Global,
     rest: &Rest<P>,

@@ -2,7 +2,7 @@
 
 ghost use Rattle.std.specs.Prelude.{◌≡◌, ◌<◌, ◌≤◌, ◌↔◌, IsTrue, IfSome, length};
 ghost use Rattle.shop_base.specs.{declared.limits.TheConstants.MAX_MACHINES, Plan.jobs, Plan.machines};
-ghost use Rattle.shop_base.specs.Cell.{made, since, entries};
+ghost use Rattle.shop_base.specs.Cell.{made, since, entries, IsFree};
 ghost use Rattle.plan_revise.specs.{Settings.setting, Settings.moves_made, Settings.HasArrived, Answers.IsWorker};
 
 use cell_tables::Rest;
@@ -94,6 +94,14 @@ impl<'a, P: Planned> RunSoFar<'a, P> {
         }
         let state = cell.job_state(job);
         state.made > 0 || state.ready
+    }
+
+    /// Whether no job is on the machine.
+    pub(crate) fn is_free(&self, machine: MachineNo) -> bool
+        requires { machine < self.now.plant }
+        ensures { IsTrue result ↔ IsFree self.now.given self.now.cell machine }
+    {
+        self.rest.cell().holder(machine).is_none()
     }
 
     /// The job whose operation goes on on the machine.

@@ -4,16 +4,18 @@ ghost use Rattle.std.specs.Prelude.{◌≡◌, ℕ, ◌<◌, ◌≤◌, ◌↔�
 ghost use Rattle.shop_base.specs.declared.shop.Step.{Step};
 ghost use Rattle.shop_base.specs.Shop.{IsRoute};
 ghost use Rattle.shop_base.specs.Plan.{jobs, machines, route, steps, order, IsWellShaped};
+ghost use Rattle.shop_base.specs.Graph.{leaving};
 ghost use Rattle.plan_verifier.specs.Accepted.{HasNoCycle};
 ghost use Rattle.plan_revise.specs.Settings.{moves_made};
 ghost use Rattle.plan_revise.specs.AnotherWay.{with_visit_at, IsOpenPlace, IsFurthestBehind, LocksEverywhere};
-ghost use Rattle.plan_revise.specs.{Fits.IsRevision, Answers.UnlessMemory, Answers.IsSendable, Answers.HasPlace, Answers.IsLock, Answers.IsFirstBehind};
+ghost use Rattle.plan_revise.specs.{Fits.IsRevision, Answers.UnlessMemory, Answers.IsSendable, Answers.HasPlace, Answers.IsLock, Answers.IsFirstBehind, Reaching.IsFirstReached};
 
 use crate::change::{ChangeFault, Made, Refusal};
 use crate::draft::Draft;
+use crate::reaching::Found;
 use crate::run_so_far::RunSoFar;
-use alt_graph::{Solved, solve};
-use shop_base::{JobNo, MachineNo, Planned, Shaped, Step};
+use alt_graph::{Graph, Solved, solve};
+use shop_base::{JobNo, MachineNo, Node, Planned, Shaped, Step};
 use std::alloc::{AllocError, Global};
 
 impl Draft {
@@ -32,11 +34,10 @@ impl Draft {
         // Called for its clause alone: what changes are judged by is sound.
         let _plant = run.plant();
         let first = self.first_open(run, job, step.machine);
-        for place in (first..self.order[step.machine as usize].len() + 1).rev() {
-            if self.is_free_at(alloc, job, step, place)? {
-                self.visit_at(job, step, place)?;
-                return Ok(());
-            }
+        let place = self.furthest_place(alloc, job, step.machine, first)?;
+        if self.is_free_at(alloc, job, step, place)? {
+            self.visit_at(job, step, place)?;
+            return Ok(());
         }
         Err(Refusal::Fault(ChangeFault::Locks))
     }
@@ -49,6 +50,28 @@ impl Draft {
             ↔ ((result ≤ a) × (a ≤ length (order self.now machine))) }
     {
         first_behind(&self.order[machine as usize], job, run.entered(machine))
+    }
+
+    /// The place in the machine's order, from the first one that the job can have, before the first job that can leave the
+    /// machine only behind the job's next move; the order's end if none is.
+    fn furthest_place(
+        &self,
+        alloc: Global,
+        job: JobNo,
+        machine: MachineNo,
+        first: usize,
+    ) -> Result<usize, AllocError>
+        requires shaped { IsWellShaped self.now }
+        requires job { job < jobs self.now }
+        requires machine { machine < machines self.now }
+        requires within { first ≤ length (order self.now machine) }
+        ensures { IfOk result (IsFirstReached self.now (leaving self.now job) machine first) }
+    {
+        let shaped = self.copy(alloc)?.into_shaped();
+        let graph = Graph::new(alloc, &shaped)?;
+        let place = shaped.step_count(job);
+        let found = Found::from(alloc, &graph, Node { job, place })?;
+        Ok(found.first_left(&graph, machine, first))
     }
 
     /// Whether there is no cycle where the job stands for the step at this place.
@@ -69,7 +92,12 @@ impl Draft {
     }
 
     /// Lets the job make this step behind its others, and stand for it at this place.
-    fn visit_at(&mut self, job: JobNo, step: Step, place: usize) -> Result<(), AllocError>
+    pub(crate) fn visit_at(
+        &mut self,
+        job: JobNo,
+        step: Step,
+        place: usize,
+    ) -> Result<(), AllocError>
         requires { HasPlace self.old job step place }
         ensures { OnOk result (self.new ≡ with_visit_at self.old job step place) }
     {
