@@ -2,3 +2,9 @@ pub mod Replays
 pub mod Numbering
 pub mod Plants
 pub mod Renumbers
+pub mod HeldRuns
+pub mod PlantKept
+pub mod RunsChanged
+pub mod SoundRuns
+pub mod PartsMade
+pub mod NextRunsGoOn

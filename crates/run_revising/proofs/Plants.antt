@@ -2,7 +2,7 @@
 use Rattle.std.proofs.Common.{◌≡◌, ℕ, List, Bool, length, inl, inr, sym, ap, ◌∙◌, subst}
 use Rattle.shop_base.specs.declared.shop.Step.{Step}
 use Rattle.shop_base.specs.Shop.{step_at}
-use Rattle.shop_base.specs.Plan.{PlannedShop, jobs, route, Visits}
+use Rattle.shop_base.specs.Plan.{PlannedShop, jobs, Visits}
 use Rattle.shop_base.proofs.Visits.{visits_job}
 use Rattle.plan_revise.specs.Aside.{IsAsideJob, IsPlant, IsPlantOf}
 use Rattle.run_pruning.specs.Pruned.{pruned}

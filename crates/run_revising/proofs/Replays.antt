@@ -1,5 +1,5 @@
 -- A run that is followed entry by entry.
-use Rattle.std.proofs.Common.{◌≡◌, ℕ, suc, ◌+◌, ◌<◌, ◌≤◌, Some, arith, List, ◌∷◌, length, get_or, drop, ap, ◌∙◌, subst, add-one, drop-cons, sym}
+use Rattle.std.proofs.Common.{◌≡◌, ℕ, ◌+◌, ◌<◌, ◌≤◌, Some, arith, List, ◌∷◌, length, get_or, drop, ap, ◌∙◌, subst, add-one, drop-cons, sym}
 use Rattle.std.proofs.lemmas.List.{drop_all}
 use Rattle.shop_base.specs.{Plan.PlannedShop, Cell.Cell, Report.IsNextMoment}
 use Rattle.shop_base.specs.Run.{CanHappen, AreEvents, after, after_all}

@@ -1,7 +1,7 @@
 -- Changes by the numbers that jobs have once some are left out.
 use Rattle.std.specs.Prelude.{ℕ, ◌+◌, List, [], ◌∷◌, Bool, Option, None, Some, option_map}
 use Rattle.plan_revise.specs.declared.change.Change.{Change}
-use Rattle.plan_revise.specs.declared.change.Change.TheVariants.{Until, Add, Route, Release, Budget, Scrap, Down}
+use Rattle.plan_revise.specs.declared.change.Change.TheVariants.{Until, Add, Route, Release, Budget, Scrap, Down, Hold}
 use Rattle.run_pruning.specs.Numbers.{number_behind}
 
 -- the change by the numbers of the jobs that stay; none where it names one that doesn't
@@ -13,6 +13,7 @@ renumbered_change marks (Release j moment) = option_map (λ i. Release i moment)
 renumbered_change marks (Budget j moment) = option_map (λ i. Budget i moment) (number_behind marks j)
 renumbered_change marks (Scrap j) = option_map Scrap (number_behind marks j)
 renumbered_change marks (Down machine) = Some (Down machine)
+renumbered_change marks (Hold machine to) = Some (Hold machine to)
 
 -- a change that is the first of these, or the end where it names a job that is left out
 abbrev pub then_changes : Option Change → List Change → List Change

@@ -5,8 +5,10 @@
 //! numbers that are given, also where jobs are left out.
 #![tactic(auto)]
 
+pub mod laws;
 mod next;
 mod renumbering;
 mod replaying;
+mod run_changes;
 
 pub use next::{NextRun, next_run};

@@ -44,7 +44,9 @@ fn renumbered_change<'a>(kept: &KeptJobs, change: Change<'a>) -> Option<Change<'
     ensures { result ≡ renumbered_change kept.now change.entry }
 {
     match change {
-        Change::Until { .. } | Change::Add { .. } | Change::Down { .. } => Some(change),
+        Change::Until { .. } | Change::Add { .. } | Change::Down { .. } | Change::Hold { .. } => {
+            Some(change)
+        }
         Change::Route { job, route } => Some(Change::Route {
             job: kept.number_behind(job)?,
             route,

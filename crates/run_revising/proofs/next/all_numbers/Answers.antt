@@ -1,4 +1,4 @@
-use Rattle.std.proofs.Common.{◌+◌, ◌++◌, List, ℕ, ap, ◌∙◌, arith, replicate, true, false, length, drop}
+use Rattle.std.proofs.Common.{◌+◌, ◌++◌, List, ℕ, ap, ◌∙◌, arith, replicate, true, false, drop}
 use Rattle.std.proofs.lemmas.List.{length-replicate, get_or-replicate}
 use Rattle.run_revising.specs.NextRuns.{numbers_kept}
 use Rattle.run_revising.proofs.Numbering.{one_that_stays, all_numbered}
