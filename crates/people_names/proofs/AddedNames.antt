@@ -1,5 +1,5 @@
 -- The names of the jobs with one more, as a text would have them.
-use Rattle.std.proofs.Common.{◌≡◌, ℕ, ◌+◌, List, [], ◌∷◌, ◌++◌, None, length, refl, sym, ap, ◌∙◌, append-nil, append_assoc, arith, inl, inr}
+use Rattle.std.proofs.Common.{◌≡◌, Bool, ℕ, ◌+◌, List, [], ◌∷◌, ◌++◌, None, length, refl, sym, ap, ◌∙◌, append-nil, append_assoc, arith, inl, inr}
 use Rattle.std.proofs.lemmas.Bool.{cases_Bool}
 use Rattle.toml.specs.Data.{string}
 use Rattle.people_names.specs.declared.keys.NamesKey.{NamesKey}
@@ -22,7 +22,7 @@ faults_behind key place end before (other ∷ names) all name at are =
     ∙ sym (append_assoc (name_faults key place before (string other)) _ _)
 
 -- a name that a job gets has no fault as one behind the others
-pub fine_behind : (place : ℕ) (names : List (List ℕ)) (jobs : ℕ) (name : List ℕ) → why_unnamed names jobs name ≡ None → name_faults Jobs place names (string name) ≡ []
+pub fine_behind : (place : ℕ) (names : List (List ℕ)) (all : Bool) (name : List ℕ) → why_unnamed names all name ≡ None → name_faults Jobs place names (string name) ≡ []
 fine_behind place names jobs name h = elim (cases_Bool (is_name name)) [
   | inr isnt ↦ let found = rw isnt at h in cc
   | inl is ↦ elim (cases_Bool (is_among name names)) [
@@ -31,8 +31,8 @@ fine_behind place names jobs name h = elim (cases_Bool (is_name name)) [
   ]
 ]
 
-pub job_names_added : (names : List (List ℕ)) (jobs : ℕ) (name : List ℕ) → why_unnamed names jobs name ≡ None → AreJobNames names → AreJobNames (names ++ name ∷ [])
-job_names_added names jobs name fine are =
+pub job_names_added : (names : List (List ℕ)) (all : Bool) (name : List ℕ) → why_unnamed names all name ≡ None → AreJobNames names → AreJobNames (names ++ name ∷ [])
+job_names_added names all name fine are =
     faults_behind Jobs 0 (length names) [] names names name (omega (arith)) refl
     ∙ ap (λ (faults : List NamesFault). faults ++ name_faults Jobs (length names) names (string name)) are
-    ∙ fine_behind (length names) names jobs name fine
+    ∙ fine_behind (length names) names all name fine

@@ -1,5 +1,5 @@
 -- The name of a job that comes behind the others.
-use Rattle.std.specs.Prelude.{◌≡◌, ℕ, nat_lt, true, if◌then◌else◌, List, [], ◌∷◌, ◌++◌, length, Option, None, Some, codes}
+use Rattle.std.specs.Prelude.{◌≡◌, ℕ, Bool, true, if◌then◌else◌, List, [], ◌∷◌, ◌++◌, Option, None, Some, codes}
 use Rattle.toml.specs.Data.{Items, array, item, no_items, string}
 use Rattle.people_names.specs.declared.keys.NamesKey.TheVariants.{Jobs}
 use Rattle.people_names.specs.declared.unnamed.JobNameFault.{JobNameFault}
@@ -16,11 +16,9 @@ job_name_fault_name BadName = codes "BadName"
 job_name_fault_name NameTwice = codes "NameTwice"
 job_name_fault_name NoNames = codes "NoNames"
 
--- why a job behind so many others, of which the first have these names, doesn't get this one: the first reason, if there is one
-abbrev pub why_unnamed : List (List ℕ) → ℕ → List ℕ → Option JobNameFault
-why_unnamed names jobs name =
-    if is_name name then (if is_among name names then Some NameTwice else (if nat_lt (length names) jobs then Some NoNames else None))
-    else Some BadName
+-- why a job behind others, of which the first have these names, or all, doesn't get this one: the first reason, if there is one
+abbrev pub why_unnamed : List (List ℕ) → Bool → List ℕ → Option JobNameFault
+why_unnamed names all name = if is_name name then (if is_among name names then Some NameTwice else (if all then None else Some NoNames)) else Some BadName
 
 -- that is the fault, unless memory ran out
 abbrev pub IsWhyUnnamed : Option JobNameFault → NotNamed → Type 0

@@ -93,16 +93,16 @@ impl Names {
         })
     }
 
-    /// Adds the name of the job behind so many others, if the first of these have names, and it is none of them. Unless it
-    /// is added all stays as it is.
-    pub fn add_job(&mut self, alloc: Global, name: &str, jobs: u32) -> Result<(), NotNamed>
-        ensures fine { OnOk result (why_unnamed self.old.jobs jobs name.now ≡ None) }
+    /// Adds the name of the job behind the others, if all of these have names, and it is none of them. Unless it is added
+    /// all stays as it is.
+    pub fn add_job(&mut self, alloc: Global, name: &str, all_named: bool) -> Result<(), NotNamed>
+        ensures fine { OnOk result (why_unnamed self.old.jobs all_named name.now ≡ None) }
         ensures added { OnOk result (self.new ≡ with_job self.old name.now) }
         ensures readable { OnOk result (AreJobNames self.old.jobs → AreJobNames self.new.jobs) }
-        ensures refused { IfErr result (IsWhyUnnamed (why_unnamed self.old.jobs jobs name.now)) }
+        ensures refused { IfErr result (IsWhyUnnamed (why_unnamed self.old.jobs all_named name.now)) }
         ensures unchanged { OnErr result (self.new ≡ self.old) }
     {
-        add_name(alloc, &mut self.jobs, name, jobs)?;
+        add_name(alloc, &mut self.jobs, name, all_named)?;
         self.lists_jobs = true;
         Ok(())
     }
@@ -121,6 +121,13 @@ impl Names {
         )?;
         push_clock(&mut text, self.clock)?;
         Ok(text)
+    }
+
+    /// How many of the first jobs have names.
+    pub fn named_jobs(&self) -> usize
+        ensures { result ≡ length self.now.jobs }
+    {
+        self.jobs.len()
     }
 
     /// The job's name, if it has one.

@@ -58,23 +58,23 @@ impl From<AllocError> for NotNamed {
     }
 }
 
-/// Adds the name of the job behind so many others, of which the first have these names. Unless it is added they stay as
+/// Adds the name of the job behind others, of which the first have these names, or all. Unless it is added they stay as
 /// they are.
 pub(crate) fn add_name(
     alloc: Global,
     names: &mut Vec<String>,
     name: &str,
-    jobs: u32,
+    all_named: bool,
 ) -> Result<(), NotNamed>
-    ensures fine { OnOk result (why_unnamed (map string_bytes names.old.items) jobs name.now ≡ None) }
+    ensures fine { OnOk result (why_unnamed (map string_bytes names.old.items) all_named name.now ≡ None) }
     ensures added { OnOk result (map string_bytes names.new.items ≡ map string_bytes names.old.items ++ name.now ∷ []) }
     ensures short { OnOk result (length name.now ≤ LONGEST_NAME) }
     ensures readable { OnOk result
         (AreJobNames (map string_bytes names.old.items) → AreJobNames (map string_bytes names.new.items)) }
-    ensures refused { IfErr result (IsWhyUnnamed (why_unnamed (map string_bytes names.old.items) jobs name.now)) }
+    ensures refused { IfErr result (IsWhyUnnamed (why_unnamed (map string_bytes names.old.items) all_named name.now)) }
     ensures unchanged { OnErr result (names.new.items ≡ names.old.items) }
 {
-    if let Some(fault) = why_unnamed(names, jobs, name) {
+    if let Some(fault) = why_unnamed(names, all_named, name) {
         return Err(NotNamed::Refused(fault));
     }
     let copy = String::from_str(alloc, name)?;
@@ -82,9 +82,9 @@ pub(crate) fn add_name(
     Ok(())
 }
 
-/// Why a job behind so many others, of which the first have these names, doesn't get this one.
-fn why_unnamed(names: &[String], jobs: u32, name: &str) -> Option<JobNameFault>
-    ensures { result ≡ why_unnamed (map string_bytes names.now) jobs name.now }
+/// Why a job behind others, of which the first have these names, or all, doesn't get this one.
+fn why_unnamed(names: &[String], all_named: bool, name: &str) -> Option<JobNameFault>
+    ensures { result ≡ why_unnamed (map string_bytes names.now) all_named name.now }
 {
     if !is_name(name) {
         return Some(JobNameFault::BadName);
@@ -92,10 +92,11 @@ fn why_unnamed(names: &[String], jobs: u32, name: &str) -> Option<JobNameFault>
     if is_among(name, names) {
         return Some(JobNameFault::NameTwice);
     }
-    if names.len() < jobs as usize {
-        return Some(JobNameFault::NoNames);
+    if all_named {
+        None
+    } else {
+        Some(JobNameFault::NoNames)
     }
-    None
 }
 
 /// Whether the name is one of these.

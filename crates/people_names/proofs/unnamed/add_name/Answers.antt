@@ -8,5 +8,5 @@ pub returns-clause-readable : goal.returns-clause-readable
 returns-clause-readable c = λ are.
     let before = map string_bytes c.args.names.now.items in
     let pushed : map string_bytes c.push.new.self.items ≡ map string_bytes c.args.names.now.items ++ c.args.name.now ∷ [] = grind (arith, common_steps) in
-    let fine : why_unnamed (map string_bytes c.args.names.now.items) c.args.jobs c.args.name.now ≡ None = grind (arith, common_steps) in
-    subst AreJobNames (sym pushed) (job_names_added before c.args.jobs c.args.name.now fine are)
+    let fine : why_unnamed (map string_bytes c.args.names.now.items) c.args.all_named c.args.name.now ≡ None = grind (arith, common_steps) in
+    subst AreJobNames (sym pushed) (job_names_added before c.args.all_named c.args.name.now fine are)
