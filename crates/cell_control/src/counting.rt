@@ -8,7 +8,7 @@ use cell_tables::WorkCell;
 use shop_base::{JobNo, MachineNo, Planned};
 
 /// The reports still to come: arrivals, ends of operations, and ends of cleanings.
-pub(crate) fn count_left<P: Planned>(cell: &WorkCell<P>) -> u64
+pub fn count_left<P: Planned>(cell: &WorkCell<P>) -> u64
     ensures { result ≡ reports_left cell.now.plan cell.now.cell }
 {
     jobs_left(cell) + machines_left(cell)

@@ -48,6 +48,7 @@ pub use cell_tables::Claim;
 pub use checking::{check_claim, check_report};
 pub use controller::Controller;
 pub use core_controller::Core;
+pub use counting::count_left;
 pub use due_moments::note_all;
 pub use dues::Dues;
 pub use ending::end_activity;
