@@ -1,5 +1,6 @@
 -- What the words of a command line ask for, by the matches that `clap` finds in them.
 use Rattle.std.specs.Prelude.{◌≡◌, ◌≢◌, ◌≤◌, ◌++◌, ◌&&◌, ◌||◌, ◌==◌, ℕ, if◌then◌else◌, Bool, true, false, List, [], ◌∷◌, Option, Some, None, IfSome, String, bytes_eq, length, map, option_map, is_some, not, pos, codes}
+use Rattle.std.specs.List.{list_any}
 use Rattle.std.specs.Option.{option_map_or}
 use Rattle.std.specs.String.{string_bytes}
 use Rattle.std.specs.declared.alloc.Global.{Global}
@@ -10,13 +11,13 @@ use Rattle.clap.specs.Words.{IsAmong, IsSignedIn, Kinds, Row, Text, fault_of, fi
 use Rattle.clap.specs.declared.error.kind.ErrorKind.{ErrorKind}
 use Rattle.clap.specs.declared.error.kind.ErrorKind.TheVariants.{ArgumentConflict, DisplayHelp, DisplayVersion, MissingRequiredArgument, OutOfMemory, ValueValidation}
 use Rattle.command_words.specs.Given.{is_moment, is_number, values_of}
-use Rattle.command_words.specs.Changes.{change_seen, changes_in, revision_misfit}
+use Rattle.command_words.specs.Changes.{change_seen, changes_in, is_timed, revision_misfit}
 use Rattle.command_words.specs.CommandLine.{command_line, most_rounds, greatest_seed, most_choices, latest_moment}
 use Rattle.command_words.specs.declared.words.Chosen.{Chosen}
 use Rattle.command_words.specs.declared.words.CommandName.{CommandName}
 use Rattle.command_words.specs.declared.words.GivenTexts.{GivenTexts}
 use Rattle.command_words.specs.declared.words.Marks.{Marks}
-use Rattle.command_words.specs.declared.words.CommandName.TheVariants.{Input, Facts, Shape, Check, Explain, Schedule, Bounds, Margin, Plan, Improve, Decide, Revise, Drive, Resume, Hub, Digest, Audit, Gantt}
+use Rattle.command_words.specs.declared.words.CommandName.TheVariants.{Input, Facts, Shape, Check, Explain, Schedule, Bounds, Margin, Plan, Improve, Decide, Revise, Drive, Resume, Hub, Digest, Audit, State, Gantt}
 use Rattle.command_words.specs.declared.words.Lines.{Lines}
 use Rattle.command_words.specs.declared.words.Lines.TheVariants.{One, Two}
 use Rattle.command_words.specs.declared.words.log_start.LogStart.{LogStart}
@@ -45,6 +46,7 @@ command_word_of Resume = Some (codes "resume")
 command_word_of Hub = Some (codes "hub")
 command_word_of Digest = Some (codes "digest")
 command_word_of Audit = Some (codes "audit")
+command_word_of State = Some (codes "state")
 command_word_of Gantt = Some (codes "gantt")
 
 -- the command takes n files
@@ -66,6 +68,7 @@ TakesFiles Resume n = n ≡ 3
 TakesFiles Hub n = 2 ≤ n
 TakesFiles Digest n = n ≡ 2
 TakesFiles Audit n = n ≡ 3
+TakesFiles State n = n ≡ 3
 TakesFiles Gantt n = n ≡ 3
 
 -- a command's word and its matches, if there is one
@@ -326,9 +329,13 @@ marks_misfit rows others = or_else (misfits_of rows)
     (or_else (moves_misfit rows)
     (or_else (start_misfit rows) others)))))
 
--- something is given that goes only with all texts: that what is over is left out, any plan of the log, or names
+-- something is given that goes only with all texts: that what is over is left out, any plan of the log, names, or a machine that is held
 abbrev pub goes_with_all : List Row → Bool
-goes_with_all rows = is_set (codes "forget") rows || (is_set (codes "hand-over") rows || is_some (names_chosen rows))
+goes_with_all rows = is_set (codes "forget") rows || (is_set (codes "hand-over") rows || (is_some (names_chosen rows) || list_any is_timed (values_of (codes "down") rows)))
+
+-- a job gets a name, and no file of names is given
+abbrev pub lacks_names : List Row → Bool
+lacks_names rows = is_some (first_of (codes "name") rows) && not (is_some (names_chosen rows))
 
 -- a plan is changed, by the command of this word
 abbrev pub is_revision : Option Text → Bool
@@ -338,10 +345,11 @@ is_revision word = option_map_or (λ w. bytes_eq w (codes "revise")) word false
 abbrev pub lacks_all : Option Text → List Row → Bool
 lacks_all word rows = is_revision word && (not (is_set (codes "all") rows) && goes_with_all rows)
 
--- so of what is printed: all texts and the instance alone don't go together, and nothing goes with all texts where they aren't asked for
+-- so of what is printed: all texts and the instance alone don't go together, nothing goes with all texts where they aren't asked for, and no job gets a name where none are given
 abbrev pub prints_misfit : Option Text → List Row → Kinds
 prints_misfit word rows = refused_if (are_both_set (codes "all") (codes "file") rows) ArgumentConflict
-    (refused_if (lacks_all word rows) MissingRequiredArgument [])
+    (refused_if (lacks_all word rows) MissingRequiredArgument
+    (refused_if (lacks_names rows) MissingRequiredArgument []))
 
 -- so of what was found in these words
 abbrev pub misfit_in : List Text → Found → Kinds

@@ -6,7 +6,7 @@ use Rattle.clap.specs.Simple.{new_shape, with_subcommand}
 use Rattle.clap.specs.declared.builder.command.Command.{Command}
 use Rattle.clap.specs.declared.builder.command.Command.TheViews.{out-Command}
 use Rattle.command_words.specs.declared.words.CommandName.{CommandName}
-use Rattle.command_words.specs.declared.words.CommandName.TheVariants.{Input, Facts, Shape as ShapeName, Check, Explain, Schedule, Bounds, Margin, Plan, Improve, Decide, Revise, Drive, Resume, Hub, Digest, Audit, Gantt}
+use Rattle.command_words.specs.declared.words.CommandName.TheVariants.{Input, Facts, Shape as ShapeName, Check, Explain, Schedule, Bounds, Margin, Plan, Improve, Decide, Revise, Drive, Resume, Hub, Digest, Audit, State, Gantt}
 use Rattle.clap.specs.declared.builder.value_parser.ValueParser.TheVariants.{Signed}
 use Rattle.clap.specs.declared.builder.action.ArgAction.TheVariants.{Append, SetTrue}
 
@@ -95,21 +95,21 @@ rest_command name more = plan_command name (option_rule (codes "after") ∷ opti
 abbrev pub lengthening_rules : List Rule
 lengthening_rules = option_rule (codes "at") ∷ repeated_rule (codes "until") ∷ repeated_rule (codes "add") ∷ []
 
--- these, `--release R` and `--budget B`, which go with the `--add` before them or are of a job, and `--route J=ROUTE`
+-- these, `--release R` and `--budget B`, which go with the `--add` before them or are of a job, `--name NAME`, and `--route J=ROUTE`
 abbrev pub adding_rules : List Rule
 adding_rules = option_rule (codes "at") ∷ repeated_rule (codes "until") ∷ repeated_rule (codes "add")
-    ∷ repeated_rule (codes "release") ∷ repeated_rule (codes "budget") ∷ repeated_rule (codes "route") ∷ []
+    ∷ repeated_rule (codes "release") ∷ repeated_rule (codes "budget") ∷ repeated_rule (codes "name") ∷ repeated_rule (codes "route") ∷ []
 
--- these, and `--scrap J`, `--down M` and `--file`: all that is changed in mid-run, and whether the instance is printed
+-- these, and `--scrap J`, `--down M`, which may be `--down M=T`, and `--file`: all that is changed in mid-run, and whether the instance is printed
 abbrev pub changing_rules : List Rule
 changing_rules = option_rule (codes "at") ∷ repeated_rule (codes "until") ∷ repeated_rule (codes "add")
-    ∷ repeated_rule (codes "release") ∷ repeated_rule (codes "budget") ∷ repeated_rule (codes "route")
+    ∷ repeated_rule (codes "release") ∷ repeated_rule (codes "budget") ∷ repeated_rule (codes "name") ∷ repeated_rule (codes "route")
     ∷ repeated_rule (codes "scrap") ∷ repeated_rule (codes "down") ∷ switch_rule (codes "file") ∷ []
 
 -- these, and `--all`, with `--forget`, names and `--hand-over`: whether all texts are printed, what of them, and of whose log
 abbrev pub revising_rules : List Rule
 revising_rules = option_rule (codes "at") ∷ repeated_rule (codes "until") ∷ repeated_rule (codes "add")
-    ∷ repeated_rule (codes "release") ∷ repeated_rule (codes "budget") ∷ repeated_rule (codes "route")
+    ∷ repeated_rule (codes "release") ∷ repeated_rule (codes "budget") ∷ repeated_rule (codes "name") ∷ repeated_rule (codes "route")
     ∷ repeated_rule (codes "scrap") ∷ repeated_rule (codes "down") ∷ switch_rule (codes "file")
     ∷ switch_rule (codes "all") ∷ switch_rule (codes "forget") ∷ names_rule ∷ switch_rule (codes "hand-over") ∷ []
 
@@ -157,6 +157,7 @@ described Resume = log_command (codes "resume") (option_rule (codes "at") ∷ dr
 described Hub = command (codes "hub") hub_rules
 described Digest = plan_command (codes "digest") []
 described Audit = log_command (codes "audit") []
+described State = log_command (codes "state") (option_rule (codes "at") ∷ names_rule ∷ [])
 described Gantt = log_command (codes "gantt") (switch_rule (codes "svg") ∷ names_rule ∷ [])
 
 -- a command line of one command alone
@@ -171,7 +172,7 @@ program_with names = fold with_subcommand (leaf bare_program) (map described nam
 abbrev pub command_line : App
 command_line = program_with
     (Facts ∷ ShapeName ∷ Check ∷ Explain ∷ Schedule ∷ Bounds ∷ Margin ∷ Plan ∷ Improve
-    ∷ Decide ∷ Revise ∷ Drive ∷ Resume ∷ Hub ∷ Digest ∷ Audit ∷ Gantt ∷ [])
+    ∷ Decide ∷ Revise ∷ Drive ∷ Resume ∷ Hub ∷ Digest ∷ Audit ∷ State ∷ Gantt ∷ [])
 
 -- the command that the code builds is the described one
 pub record Describes (a : App) (c : Command) : Type 0 where

@@ -16,6 +16,7 @@ ghost use Rattle.command_words.specs.Choice.{leap_misfit, lines_in, lines_misfit
 ghost use Rattle.command_words.specs.Choice.{misfits_of, moves_chosen, moves_misfit, number_misfit, reasons_in, rounds_in};
 ghost use Rattle.command_words.specs.Choice.{seed_in, texts_of, version_of, command_word_of};
 
+mod called;
 mod changes;
 mod command_line;
 mod log_start;
@@ -84,6 +85,8 @@ pub enum CommandName {
     Digest,
     /// Whether a log is the log of a run.
     Audit,
+    /// Where each job of a run is, and what is overdue.
+    State,
     /// A log as a chart.
     Gantt,
 }
@@ -218,8 +221,9 @@ impl From<Refusal> for WordsFault {
 /// these are refused: what `clap` refuses, a moment that isn't one, or that comes without a log, a version of the lines
 /// or a longest time that isn't one, a job that isn't a number of 1 to 9 digits, or that comes with the least makespan,
 /// moves that come with a picture, a beginning that comes without a log to keep, or of a log that is to be new and to
-/// have begun, of a changed plan all texts with the instance alone, or what goes with all texts without them, a change
-/// that isn't one, and a release or a budget that goes with no job that is added, or with one that has it.
+/// have begun, of a changed plan all texts with the instance alone, what goes with all texts without them, or a name
+/// without a file of names, a change that isn't one, and a release, a budget or a name that goes with no job that is
+/// added, a name that goes with none that holds a machine either, or any that goes with one that has it.
 pub fn read_words(alloc: Global, words: &[&str]) -> Result<Chosen, WordsFault>
     ensures chosen { let given = map (λ word. word.now) words.now in IfOk result (IsChoiceOf given (found_in given)) }
     ensures within { IfOk result IsChoiceWithin }
@@ -384,6 +388,7 @@ fn name_of(word: &str) -> CommandName
         "hub" => CommandName::Hub,
         "digest" => CommandName::Digest,
         "audit" => CommandName::Audit,
+        "state" => CommandName::State,
         _ => CommandName::Gantt,
     }
 }

@@ -20,7 +20,7 @@ use Rattle.command_words.specs.CommandLine.{option_rule, command, command_line, 
 use Rattle.command_words.specs.Given.{values_of}
 use Rattle.command_words.specs.Choice.{FitsBetween, Found, IsFit, TakesFiles, NamesOneOf, NamesReason, files_in, found_in, parse_reasons_in, command_word_of}
 use Rattle.command_words.specs.declared.words.CommandName.{CommandName}
-use Rattle.command_words.specs.declared.words.CommandName.TheVariants.{Facts, Shape as ShapeName, Check, Explain, Schedule, Bounds, Margin, Plan, Improve, Decide, Revise, Drive, Resume, Hub, Digest, Audit, Gantt}
+use Rattle.command_words.specs.declared.words.CommandName.TheVariants.{Facts, Shape as ShapeName, Check, Explain, Schedule, Bounds, Margin, Plan, Improve, Decide, Revise, Drive, Resume, Hub, Digest, Audit, State, Gantt}
 use Rattle.command_words.specs.declared.words.WordsFault.{WordsFault}
 use Rattle.command_words.specs.declared.words.WordsFault.TheVariants.{Usage, Memory}
 use Rattle.command_words.proofs.words.Fits.{FitFound, PlainRule, PlainRules, both_none, found_fits, least_of}
@@ -296,6 +296,28 @@ timetable_fits = fits_leaf (as_built (described Schedule)) Schedule one one none
 )
     (_, refl, refl, refl, refl, refl) (_, refl, refl, refl, refl, refl) refl tt tt tt (λ x y z p q r. omega arith)
 
+state_fits : FitsLeaf (as_built (described State))
+state_fits = fits_leaf (as_built (described State)) State one one one refl refl refl (
+  set_plain _ _ refl refl refl refl,
+  (
+    set_plain _ _ refl refl refl refl,
+    (
+      set_plain _ _ refl refl refl refl,
+      (
+        set_plain _ _ refl refl refl refl,
+        (
+          set_plain _ _ refl refl refl refl,
+          (
+            set_plain _ _ refl refl refl refl,
+            (help_plain _ _ refl refl refl refl, tt),
+          ),
+        ),
+      ),
+    ),
+  ),
+)
+    (_, refl, refl, refl, refl, refl) (_, refl, refl, refl, refl, refl) (_, refl, refl, refl, refl, refl) tt tt tt (λ x y z p q r. omega arith)
+
 drawing_fits : FitsLeaf (as_built (described Gantt))
 drawing_fits = fits_leaf (as_built (described Gantt)) Gantt one one one refl refl refl (
   set_plain _ _ refl refl refl refl,
@@ -438,14 +460,17 @@ revised_fits = fits_leaf (as_built (log_command (codes "revise") revising_rules)
                       (
                         append_plain _ _ refl refl refl refl,
                         (
-                          switch_plain _ _ refl refl refl,
+                          append_plain _ _ refl refl refl refl,
                           (
                             switch_plain _ _ refl refl refl,
                             (
                               switch_plain _ _ refl refl refl,
                               (
-                                set_plain _ _ refl refl refl refl,
-                                (switch_plain _ _ refl refl refl, (help_plain _ _ refl refl refl refl, tt)),
+                                switch_plain _ _ refl refl refl,
+                                (
+                                  set_plain _ _ refl refl refl refl,
+                                  (switch_plain _ _ refl refl refl, (help_plain _ _ refl refl refl refl, tt)),
+                                ),
                               ),
                             ),
                           ),
@@ -545,7 +570,10 @@ leaves = (
                               plan_fits (codes "digest") Digest refl (λ x y z p q r. omega arith),
                               (
                                 log_fits (codes "audit") Audit refl (λ x y z p q r. omega arith),
-                                (drawing_fits, tt),
+                                (
+                                  state_fits,
+                                  (drawing_fits, tt),
+                                ),
                               ),
                             ),
                           ),

@@ -1,6 +1,6 @@
 -- Steps through words and values from the front.
 use Rattle.std.proofs.Common.{◌≡◌, ◌∙◌, ◌+◌, ◌<◌, ◌≤◌, ◌&&◌, if◌then◌else◌, ℕ, Bool, true, false, List, [], ◌∷◌, Option, Some, None, ap, sym, subst, refl, length, map, drop, get_or, add-one}
-use Rattle.std.specs.Prelude.{MatchOption, is_some, option_and_then, unwrap_or}
+use Rattle.std.specs.Prelude.{MatchOption, codes, is_some, option_and_then, slice_get, unwrap_or}
 use Rattle.std.specs.Option.{option_map, option_map_or}
 use Rattle.std.specs.List.{list_all}
 use Rattle.std.specs.Borrow.{Bor}
@@ -15,9 +15,11 @@ use Rattle.clap.specs.declared.parser.matches.Found.{Found}
 use Rattle.clap.proofs.WalkLemmas.{raw_values-rows}
 use Rattle.command_words.specs.CommandLine.{latest_moment}
 use Rattle.command_words.specs.Given.{is_moment, values_of}
-use Rattle.command_words.specs.Changes.{attached_misfit, moment_at, moment_read, owners_in, owners_used, rises, rises_from, values_misfit}
+use Rattle.command_words.specs.Changes.{attached_misfit, goes_on, moment_at, moment_read, named_in, names_misfit, names_used, owners_in, owners_used, rises, rises_from, values_misfit}
 use Rattle.command_words.specs.Choice.{NamesOneOf}
 use Rattle.command_words.specs.declared.words.WordsFault.{WordsFault}
+use Rattle.command_words.specs.declared.words.called.NameOwner.{NameOwner}
+use Rattle.command_words.specs.declared.words.called.NameOwner.TheVariants.{Nobody}
 use Rattle.command_words.specs.declared.words.WordsFault.TheVariants.{Usage, Memory}
 
 -- the text of each
@@ -115,6 +117,41 @@ module _ (name flag : Text) (words : List Text) (rows : List Row) where
   pub places_fit : is_some (all_of name rows) ≡ true → rises (values_of name rows) (owners_in flag words) ≡ true → attached_misfit name flag words rows ≡ []
   places_fit used fit =
       cond-true (rises (values_of name rows) (owners_used name flag words rows)) [] (ArgumentConflict ∷ []) (ap (rises (values_of name rows)) (sym (all_owned used)) ∙ fit)
+
+-- ---- names that aren't given, and such that are
+
+module _ (words : List Text) (rows : List Row) where
+  pub none_named : all_of (codes "name") rows ≡ None → [] ≡ names_used words rows
+  none_named none = sym (ap (λ (o : Option (List Text)). option_map_or (λ _. named_in (values_of (codes "down") rows) words) o []) none)
+
+  pub no_names_fit : all_of (codes "name") rows ≡ None → names_misfit words rows ≡ []
+  no_names_fit none = ap (λ (owners : List NameOwner). if goes_on Nobody owners then [] else ArgumentConflict ∷ []) (sym (none_named none))
+
+  pub all_named : is_some (all_of (codes "name") rows) ≡ true → named_in (values_of (codes "down") rows) words ≡ names_used words rows
+  all_named = go (all_of (codes "name") rows)
+    where
+      go : (o : Option (List Text)) → is_some o ≡ true → named_in (values_of (codes "down") rows) words ≡ option_map_or (λ _. named_in (values_of (codes "down") rows) words) o []
+      go None some = absurd (cc)
+      go (Some values) some = refl
+
+  pub names_clash : (owners : List NameOwner) → owners ≡ names_used words rows → goes_on Nobody owners ≡ false → names_misfit words rows ≡ ArgumentConflict ∷ []
+  names_clash owners are clash = cond-false (goes_on Nobody (names_used words rows)) [] (ArgumentConflict ∷ []) (ap (goes_on Nobody) (sym are) ∙ clash)
+
+  pub names_fit : (owners : List NameOwner) → owners ≡ names_used words rows → goes_on Nobody owners ≡ true → names_misfit words rows ≡ []
+  names_fit owners are fit = cond-true (goes_on Nobody (names_used words rows)) [] (ArgumentConflict ∷ []) (ap (goes_on Nobody) (sym are) ∙ fit)
+
+-- ---- the value at a place
+
+module _ (vals : List (Bor Text)) (values : List Text) (place : ℕ) (same : texts vals ≡ values) where
+  pub value_past : length vals ≤ place → None ≡ slice_get values place
+  value_past outside =
+      sym (slice_get-map (λ (v : Bor Text). v.now) vals place ∙ ap (option_map (λ (v : Bor Text). v.now)) (slice_get_past vals place outside))
+      ∙ ap (λ (vs : List Text). slice_get vs place) same
+
+  pub value_there : (d : Bor Text) → place < length vals → Some (get_or vals place d).now ≡ slice_get values place
+  value_there d inside =
+      sym (slice_get-map (λ (v : Bor Text). v.now) vals place ∙ ap (option_map (λ (v : Bor Text). v.now)) (slice_get-get_or vals place d inside))
+      ∙ ap (λ (vs : List Text). slice_get vs place) same
 
 -- ---- what is said of values
 

@@ -4,7 +4,7 @@ use Rattle.std.specs.Prelude.{bytes_eq}
 use Rattle.clap.specs.Words.{Text}
 use Rattle.command_words.specs.Choice.{TakesFiles, command_word_of}
 use Rattle.command_words.specs.declared.words.CommandName.{CommandName}
-use Rattle.command_words.specs.declared.words.CommandName.TheVariants.{Input, Facts, Shape, Check, Explain, Schedule, Bounds, Margin, Plan, Improve, Decide, Revise, Drive, Resume, Hub, Digest, Audit, Gantt}
+use Rattle.command_words.specs.declared.words.CommandName.TheVariants.{Input, Facts, Shape, Check, Explain, Schedule, Bounds, Margin, Plan, Improve, Decide, Revise, Drive, Resume, Hub, Digest, Audit, State, Gantt}
 
 abbrev command_of : Option Text → CommandName
 command_of None = Input
@@ -24,6 +24,7 @@ command_of (Some word) = if bytes_eq word (codes "facts") then Facts
     else if bytes_eq word (codes "hub") then Hub
     else if bytes_eq word (codes "digest") then Digest
     else if bytes_eq word (codes "audit") then Audit
+    else if bytes_eq word (codes "state") then State
     else Gantt
 
 is_command_of : (name : CommandName) → command_of (command_word_of name) ≡ name
@@ -44,6 +45,7 @@ is_command_of Resume = refl
 is_command_of Hub = refl
 is_command_of Digest = refl
 is_command_of Audit = refl
+is_command_of State = refl
 is_command_of Gantt = refl
 
 -- what one takes the other takes, where they have one word

@@ -3,12 +3,12 @@ use Rattle.std.proofs.Common.{◌≡◌, ◌∙◌, ◌+◌, ◌<◌, ◌≤◌,
 use Rattle.std.proofs.Math.Seq.{drop-cons}
 use Rattle.std.proofs.lemmas.List.{drop_all}
 use Rattle.clap.specs.Kinds.{or_else}
-use Rattle.clap.specs.Words.{Kinds, Row, Text}
-use Rattle.command_words.specs.Changes.{asked_by, asked_of, form_misfit, misfit_by}
+use Rattle.clap.specs.Words.{Kinds, Row}
+use Rattle.command_words.specs.Changes.{Seen, asked_by, asked_of, form_misfit, misfit_by}
 use Rattle.command_words.specs.Choice.{NamesOneOf}
 use Rattle.command_words.specs.declared.words.WordsFault.{WordsFault}
 use Rattle.command_words.specs.declared.words.changes.ChangeForm.{ChangeForm}
-use Rattle.command_words.specs.declared.words.changes.ChangeKind.{ChangeKind}
+use Rattle.command_words.specs.declared.words.called.NameOwner.{NameOwner}
 use Rattle.command_words.proofs.words.Reasons.{names_first}
 
 -- ---- one option more, and the last one
@@ -16,19 +16,19 @@ use Rattle.command_words.proofs.words.Reasons.{names_first}
 from_form : (forms : List ChangeForm) (i : ℕ) (d : ChangeForm) → i < length forms → drop i forms ≡ get_or forms i d ∷ drop (i + 1) forms
 from_form forms i d inside = rw add-one (drop-cons forms i d inside)
 
-module _ (released promised : List ℕ) (rows : List Row) (forms : List ChangeForm) (i : ℕ) where
-  pub next_asked : (d : ChangeForm) (old new all : List (Text × ChangeKind)) → i < length forms → new ≡ old ++ asked_by released promised rows (get_or forms i d)
-      → old ++ asked_of released promised rows (drop i forms) ≡ all → new ++ asked_of released promised rows (drop (i + 1) forms) ≡ all
+module _ (released promised : List ℕ) (called : List NameOwner) (rows : List Row) (forms : List ChangeForm) (i : ℕ) where
+  pub next_asked : (d : ChangeForm) (old new all : List Seen) → i < length forms → new ≡ old ++ asked_by released promised called rows (get_or forms i d)
+      → old ++ asked_of released promised called rows (drop i forms) ≡ all → new ++ asked_of released promised called rows (drop (i + 1) forms) ≡ all
   next_asked d old new all inside added so_far =
-      let rest = asked_of released promised rows (drop (i + 1) forms) in
-      ap (λ (asked : List (Text × ChangeKind)). asked ++ rest) added
-      ∙ append_assoc old (asked_by released promised rows (get_or forms i d)) rest
-      ∙ ap (λ (left : List ChangeForm). old ++ asked_of released promised rows left) (sym (from_form forms i d inside))
+      let rest = asked_of released promised called rows (drop (i + 1) forms) in
+      ap (λ (asked : List Seen). asked ++ rest) added
+      ∙ append_assoc old (asked_by released promised called rows (get_or forms i d)) rest
+      ∙ ap (λ (left : List ChangeForm). old ++ asked_of released promised called rows left) (sym (from_form forms i d inside))
       ∙ so_far
 
-  pub last_asked : (old all : List (Text × ChangeKind)) → length forms ≤ i → old ++ asked_of released promised rows (drop i forms) ≡ all → old ≡ all
+  pub last_asked : (old all : List Seen) → length forms ≤ i → old ++ asked_of released promised called rows (drop i forms) ≡ all → old ≡ all
   last_asked old all outside so_far =
-      sym (append-nil old) ∙ ap (λ (left : List ChangeForm). old ++ asked_of released promised rows left) (sym (drop_all i forms outside)) ∙ so_far
+      sym (append-nil old) ∙ ap (λ (left : List ChangeForm). old ++ asked_of released promised called rows left) (sym (drop_all i forms outside)) ∙ so_far
 
 module _ (rows : List Row) (forms : List ChangeForm) (i : ℕ) where
   pub next_fits : (d : ChangeForm) → i < length forms → form_misfit rows (get_or forms i d) ≡ []

@@ -1,18 +1,20 @@
 //! The changes of a plan in mid-run that the words ask for.
 
 ghost use Rattle.std.specs.Prelude.{◌≡◌, ◌++◌, ◌∷◌, [], true, false, IfOk, IfErr, IfSome, MatchOption, OnOk, codes, map};
+ghost use Rattle.std.specs.Option.{option_copied, option_map};
 ghost use Rattle.std.specs.List.{after_first};
 ghost use Rattle.std.specs.String.{string_bytes};
 ghost use Rattle.clap.specs.Words.{found_of, rows_of};
 ghost use Rattle.command_words.specs.Given.{is_short, values_of};
 ghost use Rattle.text_lines.specs.Numbers.{value_of};
 ghost use Rattle.command_words.specs.Changes.{all_asked, asked_by, asked_one, attached_misfit, change_seen, changes_in};
-ghost use Rattle.command_words.specs.Changes.{ends_name, form_misfit, forms_misfit, is_attached, is_equals, is_own};
+ghost use Rattle.command_words.specs.Changes.{ends_name, form_misfit, forms_misfit, is_passed_over, is_equals, is_own};
 ghost use Rattle.command_words.specs.Changes.{is_routed, is_such, is_timed, kind_in, moment_at, moment_behind, moment_for};
-ghost use Rattle.command_words.specs.Changes.{moment_with, number_before, option_of, owners_in, owners_used, revision_misfit};
+ghost use Rattle.command_words.specs.Changes.{moment_with, name_in, number_before, option_of, owner_of, owners_in, owners_used, revision_misfit};
 ghost use Rattle.command_words.specs.Changes.{rises, uses, values_misfit};
 ghost use Rattle.command_words.specs.Choice.{NamesOneOf, NamesReason};
 
+use crate::words::called::{NameOwner, name_with, names_used};
 use crate::words::{
     LATEST, MOST_DIGITS, NumberForm, WordsFault, misfit, moment_of, no_number, number_in_form,
 };
@@ -27,6 +29,8 @@ pub struct AskedChange {
     pub value: String,
     /// What is asked for.
     pub kind: ChangeKind,
+    /// The name of the job that is added, or holds a machine, if one is given.
+    pub name: Option<String>,
 }
 
 impl AskedChange {
@@ -77,6 +81,13 @@ pub enum ChangeKind {
         /// Its budget.
         moment: u64,
     },
+    /// Nothing enters a machine before a moment.
+    Hold {
+        /// The machine.
+        machine: u32,
+        /// The moment.
+        moment: u64,
+    },
     /// A job is removed from the line, or from the plan.
     Scrap {
         /// The job.
@@ -89,7 +100,7 @@ pub enum ChangeKind {
     },
 }
 
-/// The options that ask for a change, in the order in which the changes are made.
+/// The forms of a change that options ask for, in the order in which the changes are made. `--down` has two.
 #[derive(Clone, Copy)]
 enum ChangeForm {
     Until,
@@ -97,6 +108,7 @@ enum ChangeForm {
     Route,
     Release,
     Budget,
+    Hold,
     Scrap,
     Down,
 }
@@ -108,12 +120,13 @@ const FORMS: &[ChangeForm] = &[
     ChangeForm::Route,
     ChangeForm::Release,
     ChangeForm::Budget,
+    ChangeForm::Hold,
     ChangeForm::Scrap,
     ChangeForm::Down,
 ];
 
 /// The changes that the words ask for, in the order in which they are made. A release or a budget without an equals sign
-/// belongs to the `--add` before it, and each stands once for it.
+/// belongs to the `--add` before it, a name to that or to the `--down M=T` before it, and each stands once for it.
 pub(crate) fn changes_of(
     alloc: Global,
     words: &[&str],
@@ -128,7 +141,9 @@ pub(crate) fn changes_of(
 {
     let released = attached_to(alloc, words, matches, "release", "--release")?;
     let promised = attached_to(alloc, words, matches, "budget", "--budget")?;
-    asked(alloc, matches, released.as_slice(), promised.as_slice())
+    let called = names_used(alloc, words, matches)?;
+    let (released, promised) = (released.as_slice(), promised.as_slice());
+    asked(alloc, matches, released, promised, called.as_slice())
 }
 
 /// The changes that the options ask for, in the order in which they are made.
@@ -137,16 +152,25 @@ fn asked(
     matches: &ArgMatches<'_>,
     released: &[usize],
     promised: &[usize],
+    called: &[NameOwner],
 ) -> Result<Vec<AskedChange>, WordsFault>
     ensures exact { IfOk result (λ changes. map change_seen changes.items
-        ≡ all_asked released.now promised.now (rows_of (found_of matches.now))) }
+        ≡ all_asked released.now promised.now called.now (rows_of (found_of matches.now))) }
     ensures fits { IfOk result (λ _. forms_misfit (rows_of (found_of matches.now)) ≡ []) }
     ensures refused { IfErr result (NamesOneOf (forms_misfit (rows_of (found_of matches.now)))) }
 {
     let mut changes = Vec::new(alloc);
     let forms = FORMS;
     for form in forms {
-        add_changes(alloc, &mut changes, matches, released, promised, *form)?;
+        add_changes(
+            alloc,
+            &mut changes,
+            matches,
+            released,
+            promised,
+            called,
+            *form,
+        )?;
     }
     Ok(changes)
 }
@@ -188,7 +212,7 @@ fn ends_name(rest: &[u8]) -> bool
 }
 
 /// Whether a word uses this option.
-fn is_use(word: &str, flag: &str) -> bool
+pub(crate) fn is_use(word: &str, flag: &str) -> bool
     ensures { result ≡ uses flag.now word.now }
 {
     let (word, flag) = (word.as_bytes(), flag.as_bytes());
@@ -241,10 +265,11 @@ fn add_changes(
     matches: &ArgMatches<'_>,
     released: &[usize],
     promised: &[usize],
+    called: &[NameOwner],
     form: ChangeForm,
 ) -> Result<(), WordsFault>
     ensures added { OnOk result (map change_seen changes.new.items ≡ map change_seen changes.old.items
-        ++ asked_by released.now promised.now (rows_of (found_of matches.now)) form) }
+        ++ asked_by released.now promised.now called.now (rows_of (found_of matches.now)) form) }
     ensures fits { OnOk result (form_misfit (rows_of (found_of matches.now)) form ≡ []) }
     ensures refused { IfErr result (NamesOneOf (form_misfit (rows_of (found_of matches.now)) form)) }
 {
@@ -258,6 +283,7 @@ fn add_changes(
             matches,
             released,
             promised,
+            called,
             form,
             place + 1,
             word,
@@ -273,38 +299,38 @@ fn add_value(
     matches: &ArgMatches<'_>,
     released: &[usize],
     promised: &[usize],
+    called: &[NameOwner],
     form: ChangeForm,
     number: usize,
     word: &str,
 ) -> Result<(), WordsFault>
     ensures added { OnOk result (map change_seen changes.new.items ≡ map change_seen changes.old.items
-        ++ asked_one released.now promised.now (rows_of (found_of matches.now)) form number word.now) }
+        ++ asked_one released.now promised.now called.now (rows_of (found_of matches.now)) form number word.now) }
     ensures fits { OnOk result (is_such form word.now ≡ true) }
     ensures refused { IfErr result (NamesOneOf (values_misfit (is_such form) (word.now ∷ []))) }
 {
-    if is_attached(form, word) {
+    if is_passed_over(form, word) {
         return Ok(());
     }
     match kind_of(matches, released, promised, form, number, word) {
         Some(kind) => {
-            add_change(alloc, changes, word, kind)?;
+            let name = name_for(matches, called, form, number);
+            add_change(alloc, changes, word, kind, name)?;
             Ok(())
         }
         None => Err(no_change(alloc, form, word)),
     }
 }
 
-/// Whether a value goes with an added job, and is no change of its own.
-fn is_attached(form: ChangeForm, word: &str) -> bool
-    ensures { result ≡ is_attached form word.now }
+/// Whether a value asks for no change of this form: it goes with an added job, or `--down` is asked for in the other form.
+fn is_passed_over(form: ChangeForm, word: &str) -> bool
+    ensures { result ≡ is_passed_over form word.now }
 {
     match form {
         ChangeForm::Release | ChangeForm::Budget => moment_of(word).is_some(),
-        ChangeForm::Until
-        | ChangeForm::Add
-        | ChangeForm::Route
-        | ChangeForm::Scrap
-        | ChangeForm::Down => false,
+        ChangeForm::Hold => timed(word).is_none(),
+        ChangeForm::Down => timed(word).is_some(),
+        ChangeForm::Until | ChangeForm::Add | ChangeForm::Route | ChangeForm::Scrap => false,
     }
 }
 
@@ -314,13 +340,53 @@ fn add_change(
     changes: &mut Vec<AskedChange>,
     word: &str,
     kind: ChangeKind,
+    name: Option<&str>,
 ) -> Result<(), AllocError>
-    ensures { OnOk result
-        (map change_seen changes.new.items ≡ map change_seen changes.old.items ++ (word.now, kind) ∷ []) }
+    ensures { OnOk result (map change_seen changes.new.items
+        ≡ map change_seen changes.old.items ++ (word.now, kind, option_copied name.entry) ∷ []) }
 {
     let value = String::from_str(alloc, word)?;
-    changes.push(AskedChange { value, kind })?;
+    let name = copied(alloc, name)?;
+    changes.push(AskedChange { value, kind, name })?;
     Ok(())
+}
+
+/// A copy of a text, if there is one.
+fn copied(alloc: Global, text: Option<&str>) -> Result<Option<String>, AllocError>
+    ensures { IfOk result (λ copy. option_map string_bytes copy ≡ option_copied text.entry) }
+{
+    match text {
+        Some(text) => Ok(Some(String::from_str(alloc, text)?)),
+        None => Ok(None),
+    }
+}
+
+/// The name that goes with a change of this form, counted from 1 among the values of its option.
+fn name_for<'a>(
+    matches: &'a ArgMatches<'_>,
+    called: &[NameOwner],
+    form: ChangeForm,
+    number: usize,
+) -> Option<&'a str>
+    ensures { option_copied result ≡ name_in called.now (rows_of (found_of matches.now)) form number }
+{
+    name_with(matches, called, owner_of(form, number))
+}
+
+/// What a change of this form is as the owner of a name.
+fn owner_of(form: ChangeForm, number: usize) -> NameOwner
+    ensures { result ≡ owner_of form number }
+{
+    match form {
+        ChangeForm::Add => NameOwner::Added(number),
+        ChangeForm::Hold => NameOwner::Held(number),
+        ChangeForm::Until
+        | ChangeForm::Route
+        | ChangeForm::Release
+        | ChangeForm::Budget
+        | ChangeForm::Scrap
+        | ChangeForm::Down => NameOwner::Nobody,
+    }
 }
 
 /// The name of an option.
@@ -333,6 +399,7 @@ fn option_of(form: ChangeForm) -> &'static str
         ChangeForm::Route => "route",
         ChangeForm::Release => "release",
         ChangeForm::Budget => "budget",
+        ChangeForm::Hold => "down",
         ChangeForm::Scrap => "scrap",
         ChangeForm::Down => "down",
     }
@@ -373,6 +440,10 @@ fn kind_of(
             Some((job, moment)) => Some(ChangeKind::Budget { job, moment }),
             None => None,
         },
+        ChangeForm::Hold => match timed(word) {
+            Some((machine, moment)) => Some(ChangeKind::Hold { machine, moment }),
+            None => None,
+        },
         ChangeForm::Scrap => match short_number(word) {
             Some(job) => Some(ChangeKind::Scrap { job }),
             None => None,
@@ -385,7 +456,7 @@ fn kind_of(
 }
 
 /// A number and a moment, `M=T` or `J=R`.
-fn timed(word: &str) -> Option<(u32, u64)>
+pub(crate) fn timed(word: &str) -> Option<(u32, u64)>
     ensures { MatchOption result (is_timed word.now ≡ false)
         (λ pair. (is_timed word.now ≡ true) × (pair.0 ≡ number_before word.now) × (pair.1 ≡ moment_behind word.now)) }
 {
@@ -481,13 +552,15 @@ fn no_change(alloc: Global, form: ChangeForm, word: &str) -> WordsFault
         ChangeForm::Add => "' for '--add <ROUTE>'",
         ChangeForm::Route => "' for '--route <J=ROUTE>': a job of 1 to 9 digits, and a route",
         ChangeForm::Release => {
-            "' for '--release <R>': a moment, at most 1000000000000, behind J= that of job J"
+            "' for '--release <R>': a moment, at most 1000000000000, or J= and a moment for job J"
         }
         ChangeForm::Budget => {
-            "' for '--budget <B>': a moment, at most 1000000000000, behind J= that of job J"
+            "' for '--budget <B>': a moment, at most 1000000000000, or J= and a moment for job J"
         }
         ChangeForm::Scrap => "' for '--scrap <J>': a job has 1 to 9 digits",
-        ChangeForm::Down => "' for '--down <M>': a machine has 1 to 9 digits",
+        ChangeForm::Hold | ChangeForm::Down => {
+            "' for '--down <M>': a machine of 1 to 9 digits, or M=T with a moment, at most 1000000000000"
+        }
     };
     no_number(alloc, word, wanted)
 }
@@ -499,7 +572,7 @@ fn misplaced(alloc: Global, flag: &str) -> WordsFault
     let parts = [
         "the argument '",
         flag,
-        "' goes with the '--add <ROUTE>' before it, and once with each",
+        "' needs an '--add <ROUTE>' before it, and can stand once for each",
     ];
     misfit(alloc, ErrorKind::ArgumentConflict, parts.as_slice())
 }

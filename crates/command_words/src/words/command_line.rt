@@ -14,7 +14,7 @@ use clap::{Arg, ArgAction, Command};
 use std::alloc::{AllocError, Global};
 
 /// The version of the program, the same as in the file `VERSION`.
-const VERSION: &str = "3.1.0";
+const VERSION: &str = "3.2.0";
 
 /// A file that has to be named.
 fn file<'a>(alloc: Global, name: &'a str, help: &'a str) -> Arg<'a>
@@ -126,7 +126,7 @@ fn names<'a>(alloc: Global) -> Arg<'a>
     ensures rule { rule_of result ≡ names_rule }
     ensures local { result.global ≡ false }
 {
-    let help = "Write names and clock times by this file, in TOML";
+    let help = "Use the names and the clock of this file, in TOML";
     option(alloc, "names", "NAMES", help)
 }
 
@@ -266,6 +266,15 @@ fn timetable<'a>(alloc: Global) -> Result<Command<'a>, AllocError>
     with_arg(moved, names(alloc))
 }
 
+/// The state of a run.
+fn whereabouts<'a>(alloc: Global) -> Result<Command<'a>, AllocError>
+    ensures { IfOk result (Describes (leaf (described CommandName.State))) }
+{
+    let about = "Says where each job of a run is, and what is overdue";
+    let present = with_arg(on_log(alloc, "state", about), at(alloc));
+    with_arg(present, names(alloc))
+}
+
 /// The drawing of a log.
 fn drawing<'a>(alloc: Global) -> Result<Command<'a>, AllocError>
     ensures { IfOk result (Describes (leaf (described CommandName.Gantt))) }
@@ -319,23 +328,25 @@ fn lengthened<'a>(alloc: Global) -> Result<Command<'a>, AllocError>
     ensures { IfOk result (Describes (leaf (log_command (codes "revise") lengthening_rules))) }
 {
     let about = "Changes a plan in mid-run: a part is scrapped, a job added, a machine down";
-    let until = "Take what goes on on machine M to last until T";
+    let until = "Say that what is on machine M lasts until T";
     let add = "Add a job, ROUTE as a line of the instance";
     let log = with_arg(on_log(alloc, "revise", about), at(alloc));
     let lasting = with_arg(log, repeated(alloc, "until", "M=T", until));
     with_arg(lasting, repeated(alloc, "add", "ROUTE", add))
 }
 
-/// The numbers of the jobs that are added, behind those, and the jobs that go another way.
+/// The numbers and names of the jobs that are added, behind those, and the jobs that go another way.
 fn added<'a>(alloc: Global) -> Result<Command<'a>, AllocError>
     ensures { IfOk result (Describes (leaf (log_command (codes "revise") adding_rules))) }
 {
     let release = "The release of the job added before, or J=R of job J";
     let budget = "The budget of the job added before, or J=B of job J";
+    let name = "The name of the job added, or holding a machine, before";
     let route = "Send job J another way from where it is";
     let released = with_arg(lengthened(alloc), repeated(alloc, "release", "R", release));
     let promised = with_arg(released, repeated(alloc, "budget", "B", budget));
-    with_arg(promised, repeated(alloc, "route", "J=ROUTE", route))
+    let named = with_arg(promised, repeated(alloc, "name", "NAME", name));
+    with_arg(named, repeated(alloc, "route", "J=ROUTE", route))
 }
 
 /// A plan that is changed in mid-run, of which the plan or the instance is printed.
@@ -343,7 +354,7 @@ fn changed<'a>(alloc: Global) -> Result<Command<'a>, AllocError>
     ensures { IfOk result (Describes (leaf (log_command (codes "revise") changing_rules))) }
 {
     let scrap = "Take job J out of the line by hand, or out of the plan";
-    let down = "Let machine M do no more for the rest of the run";
+    let down = "Let machine M do no more, or hold it until T with M=T";
     let file = "Print the instance in place of the plan";
     let fewer = with_arg(added(alloc), repeated(alloc, "scrap", "J", scrap));
     let changed = with_arg(fewer, repeated(alloc, "down", "M", down));
@@ -354,9 +365,9 @@ fn changed<'a>(alloc: Global) -> Result<Command<'a>, AllocError>
 fn revised<'a>(alloc: Global) -> Result<Command<'a>, AllocError>
     ensures { IfOk result (Describes (leaf (described CommandName.Revise))) }
 {
-    let all = "Print the log, with all texts in it";
+    let all = "Print FILE, PLAN and the run as one log";
     let over = "Leave out the jobs that are over";
-    let hand_over = "Take a log of whichever plan";
+    let hand_over = "Accept a log of any plan";
     let whole = with_arg(changed(alloc), switch(alloc, "all", all));
     let shorter = with_arg(whole, switch(alloc, "forget", over));
     let named = with_arg(shorter, names(alloc));
@@ -453,6 +464,7 @@ fn command_of<'a>(alloc: Global, name: CommandName) -> Result<Command<'a>, Alloc
             "Prints the digits by which a log names a plan and its shop",
         ),
         CommandName::Audit => on_log(alloc, "audit", "Says whether a log is a run of the plan"),
+        CommandName::State => whereabouts(alloc),
         CommandName::Gantt => drawing(alloc),
     }
 }
@@ -506,6 +518,7 @@ pub fn whole<'a>(alloc: Global) -> Result<Command<'a>, AllocError>
         CommandName::Hub,
         CommandName::Digest,
         CommandName::Audit,
+        CommandName::State,
         CommandName::Gantt,
     ];
     program_with(alloc, names.as_slice())

@@ -13,7 +13,7 @@ returns-in_default-clause-added c =
     let rows = rows_of (found_of c.args.matches.now) in
     let before = map change_seen c.args.changes.now.items in
     let none = values_left_out (found_of c.args.matches.now) c.option_of.result.now c.get_raw.result c.get_raw.ensures c.in_default.is ∙ ap (λ (id : List ℕ). values_of id rows) c.option_of.ensures in
-    sym (append-nil before) ∙ ap (λ (values : List (List ℕ)). before ++ asked_from c.args.released.now c.args.promised.now rows c.args.form 1 values) none
+    sym (append-nil before) ∙ ap (λ (values : List (List ℕ)). before ++ asked_from c.args.released.now c.args.promised.now c.args.called.now rows c.args.form 1 values) none
 
 pub returns-in_default-clause-fits : goal.returns-in_default-clause-fits
 returns-in_default-clause-fits c =
@@ -32,7 +32,7 @@ returns-in_err-add_value-clause-refused c =
 pub returns-clause-added : goal.returns-clause-added
 returns-clause-added c =
     let rows = rows_of (found_of c.args.matches.now) in
-    let asked = asked_from c.args.released.now c.args.promised.now rows c.args.form in
+    let asked = asked_from c.args.released.now c.args.promised.now c.args.called.now rows c.args.form in
     let before = map change_seen c.loop-place.changes.items in
     let given = values_given (found_of c.args.matches.now) c.option_of.result.now c.get_raw.result c.in-Some.given c.get_raw.ensures c.in-Some.is ∙ ap (λ (id : List ℕ). values_of id rows) c.option_of.ensures in
     sym (append-nil before)

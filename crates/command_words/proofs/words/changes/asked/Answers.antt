@@ -11,7 +11,7 @@ loop-form-preserved c =
     let rows = rows_of (found_of c.args.matches.now) in
     record {
       forms = c.loop-form.invariant.forms;
-      so_far = next_asked c.args.released.now c.args.promised.now rows _ c.loop-form.form-index _ _ _ _ c.loop-form-test.true c.in_ok-add_changes.ensures.added c.loop-form.invariant.so_far;
+      so_far = next_asked c.args.released.now c.args.promised.now c.args.called.now rows _ c.loop-form.form-index _ _ _ _ c.loop-form-test.true c.in_ok-add_changes.ensures.added c.loop-form.invariant.so_far;
       fits = next_fits rows _ c.loop-form.form-index _ c.loop-form-test.true c.in_ok-add_changes.ensures.fits c.loop-form.invariant.fits;
     }
 
@@ -26,8 +26,8 @@ returns-in_err-add_changes-clause-refused c =
 pub returns-clause-exact : goal.returns-clause-exact
 returns-clause-exact c =
     let rows = rows_of (found_of c.args.matches.now) in
-    last_asked c.args.released.now c.args.promised.now rows _ c.loop-form.form-index _ _ c.loop-form-test.false c.loop-form.invariant.so_far
-    ∙ ap (asked_of c.args.released.now c.args.promised.now rows) c.loop-form.invariant.forms
+    last_asked c.args.released.now c.args.promised.now c.args.called.now rows _ c.loop-form.form-index _ _ c.loop-form-test.false c.loop-form.invariant.so_far
+    ∙ ap (asked_of c.args.released.now c.args.promised.now c.args.called.now rows) c.loop-form.invariant.forms
 
 pub returns-clause-fits : goal.returns-clause-fits
 returns-clause-fits c =

@@ -8,6 +8,6 @@ invariant-loop-form l =
     let rows = rows_of (found_of l.matches) in
     record {
       forms : l.forms ≡ every_form;
-      so_far : map change_seen l.changes.items ++ asked_of l.released l.promised rows (drop l.form-index l.forms) ≡ asked_of l.released l.promised rows l.forms;
+      so_far : map change_seen l.changes.items ++ asked_of l.released l.promised l.called rows (drop l.form-index l.forms) ≡ asked_of l.released l.promised l.called rows l.forms;
       fits : misfit_by rows (drop l.form-index l.forms) ≡ misfit_by rows l.forms;
     }
