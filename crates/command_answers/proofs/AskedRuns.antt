@@ -1,22 +1,17 @@
 -- Where a run is of which something is asked, and what comes of it.
-use Rattle.std.proofs.Common.{◌≡◌, ℕ, List, [], Option, None, Some, Result, Ok, Err, IfOk, IfErr, IsErrAnd, inl, inr, ◌∙◌, ap, subst, sym, refl}
+use Rattle.std.proofs.Common.{◌≡◌, ℕ, List, [], Option, None, Some, Result, Ok, Err, IfOk, IfErr, inl, inr, ap, subst, refl}
 use Rattle.shop_base.specs.{Plan.PlannedShop, Cell.{Cell, start}}
-use Rattle.text_lines.specs.Lines.{ended_lines}
 use Rattle.cell_tables.specs.declared.entry.Entry.{Entry}
 use Rattle.run_gantt.specs.DrawnVisits.{drawn_visits}
-use Rattle.run_log.specs.Present.{IsRunAt}
 use Rattle.people_names.specs.NameBooks.{NameBook}
-use Rattle.plan_verifier.specs.{Accepted.IsAcceptable, Seen.as_rest, Verdicts.{IsReason, OnAccepted, OnRefused}}
 use Rattle.plan_verifier.specs.declared.verdict.Judged.{Judged}
 use Rattle.plan_verifier.specs.declared.verdict.Judged.TheVariants.{Accepted, Refused}
-use Rattle.plan_verifier.specs.declared.verdict.Verdict.{Verdict}
-use Rattle.plan_verifier.specs.declared.verdict.Verdict.TheVariants.{Accepted as AcceptedPlan, Refused as RefusedPlan}
 use Rattle.plan_verifier.specs.declared.verdict.Why.TheVariants.{Cycle, Late}
 use Rattle.plan_explain.specs.{Known.IsKnownVerdict, FirstLines.IsFirstLine}
 use Rattle.command_answers.specs.declared.answer.Answer.{Answer}
 use Rattle.command_answers.specs.declared.command_fault.CommandFault.{CommandFault}
 use Rattle.command_answers.specs.declared.pictures.Drawn.{Drawn}
-use Rattle.command_answers.specs.declared.pictures.Drawn.TheVariants.{Picture, Line as LineDrawn}
+use Rattle.command_answers.specs.declared.pictures.Drawn.TheVariants.{Line as LineDrawn}
 use Rattle.command_answers.specs.declared.rests.PlanAnswer.{PlanAnswer}
 use Rattle.command_answers.specs.declared.rests.PlanAnswer.TheVariants.{Verdict as VerdictAlone, Reasons, Moments}
 use Rattle.command_answers.specs.declared.known_rests.KnownRest.{KnownRest}
@@ -25,8 +20,8 @@ use Rattle.command_answers.specs.Commands.{AsksOfRun, IfShapedBy, IfThereBy, Inp
 use Rattle.command_answers.specs.Moves.{AreMovesAhead, IsMovesAnswer}
 use Rattle.command_answers.specs.Naming.{ReadsNames}
 use Rattle.command_answers.specs.Pictures.{IsLineAlone, IsRestDrawing, IsRestDrawn, IsVerdictDrawn, line_at}
-use Rattle.command_answers.specs.Rests.{AnswersRest, IsAnswerBy, IsRestLine, IsRunRefused, rest_status}
-use Rattle.command_answers.specs.KnownRests.{IsAtStart, IsInstead, IsPlanVerdict, IsFoundRest, IsKnownRest, IsKnownAt}
+use Rattle.command_answers.specs.Rests.{AnswersRest, IsAnswerBy, IsRestLine, rest_status}
+use Rattle.command_answers.specs.KnownRests.{IsAtStart, IsInstead, IsPlanVerdict, IsFoundRest, IsKnownRest}
 use Rattle.command_answers.proofs.Passing.{then_on}
 use Rattle.command_answers.proofs.RestAnswers.{by_verdict}
 use Rattle.command_answers.specs.Steps.{Concludes, IsOrMemory}

@@ -1,5 +1,5 @@
 -- Plans that are loaded one after another.
-use Rattle.std.proofs.Common.{◌≡◌, ℕ, ◌+◌, ◌<◌, List, [], ◌∷◌, ◌++◌, Option, None, Some, Result, Ok, Err, length, inl, inr, refl, subst, sym, ap, ◌∙◌, map, drop, get_or, string_bytes, String, Global}
+use Rattle.std.proofs.Common.{◌≡◌, ℕ, ◌+◌, ◌<◌, List, [], ◌∷◌, Option, None, Some, Result, Ok, Err, length, inl, inr, refl, subst, sym, ap, ◌∙◌, map, drop, get_or, string_bytes, String, Global}
 use Rattle.std.proofs.lemmas.List.{at_drop_more}
 use Rattle.shop_base.specs.Shop.{JobShop}
 use Rattle.orlib_read.specs.declared.named.Named.{Named}

@@ -1,13 +1,9 @@
 -- The pictures of logs, of plans and of the rests of runs.
-use Rattle.std.proofs.Common.{◌≡◌, ◌<◌, ◌≤◌, ℕ, List, Option, Result, Ok, Err, IfOk, Bool, refl, inl, inr, subst, sym, ap, ◌∙◌}
+use Rattle.std.proofs.Common.{◌≡◌, ℕ, List, Option, Bool, refl, subst, ap, ◌∙◌}
 use Rattle.shop_base.specs.Plan.{PlannedShop, jobs}
 use Rattle.shop_base.specs.Cell.{Cell}
-use Rattle.shop_base.specs.Run.{ends_in}
-use Rattle.text_lines.specs.Lines.{ended_lines}
 use Rattle.cell_tables.specs.declared.entry.Entry.{Entry}
-use Rattle.cell_tables.specs.Events.{events_of}
 use Rattle.run_log.specs.declared.audit_result.Audit.{Audit}
-use Rattle.run_log.specs.Audits.{ParseAsRun}
 use Rattle.people_names.specs.NameBooks.{NameBook}
 use Rattle.run_picture.specs.declared.head.Sheet.{Sheet}
 use Rattle.run_picture.specs.declared.visit.DrawnVisit.{DrawnVisit}
@@ -18,10 +14,7 @@ use Rattle.run_gantt.specs.DrawnVisits.{drawn_visits}
 use Rattle.run_gantt.specs.LeavingsSoFar.{leavings_so_far}
 use Rattle.plan_schedule.specs.declared.picture_visits.DrawnRun.{DrawnRun}
 use Rattle.plan_schedule.specs.DrawnVisits.{IsDrawnRun}
-use Rattle.plan_explain.specs.Known.{IsKnownVerdict}
-use Rattle.plan_verifier.specs.declared.verdict.Judged.{Judged}
-use Rattle.command_answers.specs.declared.pictures.Drawn.{Drawn}
-use Rattle.command_answers.specs.Pictures.{log_sheet, run_sheet, IsRunPicture, IsVerdictDrawn, IsRestDrawn}
+use Rattle.command_answers.specs.Pictures.{log_sheet, run_sheet, IsRunPicture}
 
 -- a picture of the same
 same_picture : (names : NameBook) (sheet other : Sheet) (visits others : List DrawnVisit) (late lates : List (Option LateLeaving)) (picture : List ℕ) → sheet ≡ other → visits ≡ others → late ≡ lates

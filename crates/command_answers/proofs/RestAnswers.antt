@@ -1,10 +1,7 @@
 -- The answers on a plan, and on the rest of a run.
-use Rattle.std.proofs.Common.{◌≡◌, ◌≤◌, ℕ, Option, None, Some, Result, Ok, Err, IfOk, inl, inr, List, [], ◌∷◌, arith, subst}
+use Rattle.std.proofs.Common.{◌≡◌, ◌≤◌, ℕ, Option, None, Some, Result, Ok, Err, IfOk, inl, inr, List, [], ◌∷◌, arith}
 use Rattle.shop_base.specs.{Plan.PlannedShop, Cell.{Cell, start}, declared.node.Node.Node}
-use Rattle.text_lines.specs.Lines.{ended_lines}
 use Rattle.alt_graph.specs.{Evidence.IsCycle, Solved.HasCycle}
-use Rattle.cell_tables.specs.declared.entry.Entry.{Entry}
-use Rattle.run_log.specs.Present.{IsRunAt}
 use Rattle.people_names.specs.NameBooks.{NameBook}
 use Rattle.plan_verifier.specs.{declared.verdict.Judged.Judged, declared.verdict.Judged.TheVariants.{Accepted, Refused}}
 use Rattle.cell_control.specs.Begun.{IsRestFault}
@@ -12,11 +9,9 @@ use Rattle.cell_control.specs.declared.rest_fault.RestFault.{RestFault}
 use Rattle.cell_control.specs.declared.rest_fault.RestFault.TheVariants.{Cycle, Memory as NoMovesMemory}
 use Rattle.plan_explain.specs.Known.{HasRanks, IsKnownVerdict}
 use Rattle.command_answers.specs.declared.answer.Answer.{Answer}
-use Rattle.command_answers.specs.declared.command_fault.CommandFault.{CommandFault}
 use Rattle.command_answers.specs.declared.rests.PlanAnswer.{PlanAnswer}
 use Rattle.command_answers.specs.declared.rests.PlanAnswer.TheVariants.{Verdict, Reasons, Moments}
 use Rattle.command_answers.specs.Checks.{IsVerdictLine}
-use Rattle.command_answers.specs.Steps.{IsOrMemory}
 use Rattle.command_answers.specs.Moves.{AreMovesAhead, IsMovesAnswer, moves_command_fault}
 use Rattle.command_answers.specs.Rests.{IsAnswerBy, IsLogAnswer, IsRestLine, AnswersRest, rest_status}
 

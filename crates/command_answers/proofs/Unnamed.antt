@@ -1,5 +1,5 @@
 -- A command that is given no names.
-use Rattle.std.proofs.Common.{◌≡◌, ℕ, List, Option, None, Result, Ok, Err, subst}
+use Rattle.std.proofs.Common.{◌≡◌, ℕ, List, None, Result, Ok, Err, subst}
 use Rattle.shop_base.specs.Plan.{PlannedShop}
 use Rattle.people_names.specs.NameBooks.{NameBook, no_names}
 use Rattle.command_answers.specs.declared.command_fault.CommandFault.{CommandFault}

@@ -1,7 +1,6 @@
 -- The log that `revise` prints, which begins with its own texts.
-use Rattle.std.specs.Prelude.{◌≡◌, ◌≢◌, ◌⊎◌, ℕ, ◌-◌, Bool, true, false, List, ◌++◌, Option, None, Some, Result, Ok, Err, codes, map, length, replicate}
-use Rattle.shop_base.specs.Plan.{PlannedShop, jobs, machines}
-use Rattle.text_lines.specs.Lines.{ended_lines}
+use Rattle.std.specs.Prelude.{◌≡◌, ◌≢◌, ◌⊎◌, ℕ, Bool, true, false, List, ◌++◌, Option, None, Some, Result, Ok, Err, codes, map}
+use Rattle.shop_base.specs.Plan.{PlannedShop}
 use Rattle.event_lines.specs.declared.run_digits.RunDigits.{RunDigits}
 use Rattle.event_lines.specs.RunDigits.{digits_words}
 use Rattle.run_log.specs.Digits.{digits_of}
@@ -9,9 +8,10 @@ use Rattle.run_journal.specs.declared.log_run.LogRun.{LogRun}
 use Rattle.run_journal.specs.declared.log_run.LogRun.TheVariants.{Unbegun, Unnamed, Named}
 use Rattle.run_journal.specs.LogRuns.{IsLogRunOf}
 use Rattle.people_names.specs.NameBooks.{NameBook}
-use Rattle.people_names.specs.{KeptNames.kept_names, NameLines.name_lines}
+use Rattle.people_names.specs.NameLines.{name_lines}
+use Rattle.plan_revise.specs.declared.change.Change.{Change}
 use Rattle.log_chapters.specs.declared.parts.Origin.{Origin}
-use Rattle.log_chapters.specs.declared.parts.Origin.TheVariants.{Was, New}
+use Rattle.log_chapters.specs.declared.parts.Origin.TheVariants.{Was}
 use Rattle.log_chapters.specs.Chapters.{chapter_text}
 use Rattle.log_chapters.specs.NamesGiven.{HasNames}
 use Rattle.run_revising.specs.declared.next.NextRun.{NextRun}
@@ -24,6 +24,7 @@ use Rattle.command_answers.specs.declared.revises.Revised.TheVariants.{PlanText,
 use Rattle.command_answers.specs.Asked.{AskedRevision}
 use Rattle.command_answers.specs.Documents.{IsDocumentAnswer}
 use Rattle.command_answers.specs.InstanceTexts.{IsInstanceAnswer}
+use Rattle.command_answers.specs.MadeJobs.{all_made}
 
 -- ---- which logs are told anew
 
@@ -84,27 +85,27 @@ IsMisfitLine misfit answer = (answer.text.items ≡ log_misfit_line misfit) × (
 
 -- ---- what is printed
 
--- what each job was: those that were there had numbers, and those behind them are new
-abbrev pub origins_of : NextRun → List Origin
-origins_of next = map Was next.were.items ++ replicate (jobs next.shaped - length next.were.items) New
+-- what each job was: those that stay had numbers, and those behind them are made by changes
+abbrev pub origins_of : List Change → NextRun → List Origin
+origins_of changes next = map Was next.were.items ++ all_made changes
 
--- the names of what is left, if any are given
-abbrev pub printed_names : NameBook → Bool → NextRun → Option (List ℕ)
-printed_names book false next = None
-printed_names book true next = Some (name_lines (kept_names book next.were.items (machines next.shaped)))
+-- the text of names, if any are given
+abbrev pub printed_names : NameBook → Bool → Option (List ℕ)
+printed_names book false = None
+printed_names book true = Some (name_lines book)
 
--- the log of a run and its plan that begins with these texts
-abbrev pub run_chapter : List ℕ → List ℕ → Option (List ℕ) → NextRun → List ℕ
-run_chapter file plan names next = chapter_text file plan names (origins_of next) next.entries.items (digits_of next.shaped.shop next.shaped.plan)
+-- the log of a run and its plan, by these changes, that begins with these texts
+abbrev pub run_chapter : List ℕ → List ℕ → Option (List ℕ) → List Change → NextRun → List ℕ
+run_chapter file plan names changes next = chapter_text file plan names (origins_of changes next) next.entries.items (digits_of next.shaped.shop next.shaped.plan)
 
-module _ (description : List ℕ) (book : NameBook) (named : Bool) (next : NextRun) where
-  -- the log begins with the text of the instance and that of the plan, as each is printed alone, and with the names, if any are given
+module _ (description : List ℕ) (changes : List Change) (book : NameBook) (named : Bool) (next : NextRun) where
+  -- the log begins with the text of the instance and that of the plan, as each is printed alone, and with these names, if any are given
   pub record IsRunChapter (answer : Answer) : Type 0 where
     pub file : Answer
     pub is_file : IsInstanceAnswer description next.shaped.shop (Ok file)
     pub plan : Answer
     pub is_plan : IsDocumentAnswer next.shaped.plan 0 (Ok plan)
-    pub text : answer.text.items ≡ run_chapter file.text.items plan.text.items (printed_names book named next) next
+    pub text : answer.text.items ≡ run_chapter file.text.items plan.text.items (printed_names book named) changes next
     pub good : answer.status ≡ 0
 
   -- so, or one of the two can't be printed, or memory runs out
@@ -113,7 +114,7 @@ module _ (description : List ℕ) (book : NameBook) (named : Bool) (next : NextR
   IsChapterAnswer (Err fault) = IsInstanceAnswer description next.shaped.shop (Err fault) ⊎ IsDocumentAnswer next.shaped.plan 0 (Err fault)
 
 -- what is printed of a run and its plan
-abbrev pub IsPrintedAs : Revised → List ℕ → NameBook → Bool → NextRun → Result Answer CommandFault → Type 0
-IsPrintedAs PlanText description book named next = IsDocumentAnswer next.shaped.plan 0
-IsPrintedAs InstanceText description book named next = IsInstanceAnswer description next.shaped.shop
-IsPrintedAs (LogText without hands_over) description book named next = IsChapterAnswer description book named next
+abbrev pub IsPrintedAs : Revised → List ℕ → List Change → NameBook → Bool → NextRun → Result Answer CommandFault → Type 0
+IsPrintedAs PlanText description changes book named next = IsDocumentAnswer next.shaped.plan 0
+IsPrintedAs InstanceText description changes book named next = IsInstanceAnswer description next.shaped.shop
+IsPrintedAs (LogText without hands_over) description changes book named next = IsChapterAnswer description changes book named next

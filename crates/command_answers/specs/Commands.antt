@@ -33,6 +33,7 @@ use Rattle.command_answers.specs.declared.logs.LogAnswer.{LogAnswer}
 use Rattle.command_answers.specs.LogLines.{IsLogLine}
 use Rattle.command_answers.specs.declared.rests.PlanAnswer.{PlanAnswer}
 use Rattle.command_answers.specs.Rests.{IsRestLine, job_asked}
+use Rattle.command_answers.specs.States.{IsStateLine}
 use Rattle.command_answers.specs.ImprovingRests.{IsBetterAnswer}
 use Rattle.command_answers.specs.Asked.{AskedRevision}
 use Rattle.command_answers.specs.Revising.{IsReviseAnswer}
@@ -185,6 +186,10 @@ module _ {W : Type 0} (gives : W → List ℕ → Result (List ℕ) CommandFault
   -- `audit` and `gantt`: both are read, then the names, and then the log
   abbrev pub RunsLog : LogAnswer → InputPaths → Option (List ℕ) → List ℕ → W → Result Answer CommandFault → W → Type 0
   RunsLog wanted inputs names log = WithBoth inputs (λ p. IfShaped p (WithNamesAndLog names log p (λ book. IsLogLine book wanted p)))
+
+  -- `state`: both are read, then the names, and then the log, and the state at its end, or at a present moment, is printed
+  abbrev pub RunsState : InputPaths → Option (List ℕ) → List ℕ → Option ℕ → W → Result Answer CommandFault → W → Type 0
+  RunsState inputs names log at = WithBoth inputs (λ p. IfShaped p (WithNamesAndLog names log p (λ book. IsStateLine book at p)))
 
   -- the names are read, then the log, and what the changes make of a well-shaped plan is answered
   abbrev pub RevisesShaped : AskedRevision → List ℕ → List ℕ → PlannedShop → W → Result Answer CommandFault → W → Type 0

@@ -24,9 +24,11 @@ pub mod Deciding
 pub mod LogLines
 pub mod Rests
 pub mod Moves
+pub mod States
 pub mod ImprovingRests
 pub mod InstanceTexts
 pub mod Asked
+pub mod MadeJobs
 pub mod Chapters
 pub mod Revising
 pub mod DecidingRests

@@ -1,12 +1,10 @@
 -- The pictures that answer `gantt` and `schedule`, where they are asked for.
-use Rattle.std.specs.Prelude.{◌≡◌, ℕ, ◌<◌, ◌≤◌, max, Bool, true, false, List, [], ◌∷◌, ◌⊎◌, Option, None, Some, Result}
-use Rattle.shop_base.specs.Plan.{PlannedShop, IsWellShaped, jobs, machines}
+use Rattle.std.specs.Prelude.{◌≡◌, ℕ, max, Bool, true, false, List, [], ◌∷◌, ◌⊎◌, Option, None, Some, Result}
+use Rattle.shop_base.specs.Plan.{PlannedShop, jobs, machines}
 use Rattle.shop_base.specs.Cell.{Cell, start}
-use Rattle.shop_base.specs.Run.{ends_in}
 use Rattle.text_lines.specs.Lines.{lines_of, ended_lines}
 use Rattle.cell_tables.specs.declared.entry.Entry.{Entry}
-use Rattle.cell_tables.specs.Events.{events_of}
-use Rattle.people_names.specs.NameBooks.{NameBook, no_names}
+use Rattle.people_names.specs.NameBooks.{NameBook}
 use Rattle.run_picture.specs.declared.head.Head.{Head}
 use Rattle.run_picture.specs.declared.head.Head.TheVariants.{Accepted as InTime, Late as TooLate, Log}
 use Rattle.run_picture.specs.declared.head.Sheet.{Sheet}
@@ -22,15 +20,13 @@ use Rattle.plan_explain.specs.FirstLines.{cycle_line}
 use Rattle.plan_schedule.specs.declared.picture_visits.DrawnRun.{DrawnRun}
 use Rattle.plan_schedule.specs.DrawnVisits.{IsDrawnRun}
 use Rattle.run_log.specs.declared.audit_result.Audit.{Audit}
-use Rattle.run_log.specs.Audits.{IsAudit, ParseAsRun}
+use Rattle.run_log.specs.Audits.{IsAudit}
 use Rattle.run_gantt.specs.DrawnVisits.{drawn_visits}
 use Rattle.run_gantt.specs.LeavingsSoFar.{leavings_so_far}
 use Rattle.command_answers.specs.declared.answer.Answer.{Answer}
 use Rattle.command_answers.specs.declared.command_fault.CommandFault.{CommandFault}
 use Rattle.command_answers.specs.declared.pictures.Drawn.{Drawn}
 use Rattle.command_answers.specs.declared.pictures.Drawn.TheVariants.{Picture, Line}
-use Rattle.command_answers.specs.Steps.{Concludes, IsOrMemory}
-use Rattle.command_answers.specs.Shapes.{IsNotShapedLine}
 use Rattle.command_answers.specs.LogLines.{IsLogRefused}
 use Rattle.command_answers.specs.Rests.{RecordsRun, IsRunRefused}
 use Rattle.command_answers.specs.Commands.{AsksOfRun, IfShapedBy, InputPaths, RunPaths, WithBoth, WithNamesAndLog}

@@ -1,21 +1,23 @@
 //! The log that `revise` prints, which begins with its own texts, and why there is none.
 
-ghost use Rattle.std.specs.Prelude.{◌≡◌, ◌≢◌, ◌++◌, IfOk, OnOk, MatchOption, map, replicate};
+ghost use Rattle.std.specs.Prelude.{◌≡◌, ◌≢◌, ◌++◌, IfOk, OnOk, MatchOption, is_some, map};
 ghost use Rattle.std.specs.Option.{option_copied};
 ghost use Rattle.shop_base.specs.Vectors.{list_of};
 ghost use Rattle.text_lines.specs.Lines.{ended_lines};
-ghost use Rattle.event_lines.specs.declared.run_digits.RunDigits.{RunDigits};
+ghost use Rattle.run_log.specs.Digits.{digits_of};
 ghost use Rattle.command_answers.specs.Asked.{asked};
-ghost use Rattle.command_answers.specs.Chapters.{IsLogMisfit, FitsLog, IsForPlan, IsMisfitLine, other_plan_line};
+ghost use Rattle.command_answers.specs.Chapters.{IsLogMisfit, FitsLog, IsMisfitLine, other_plan_line};
 ghost use Rattle.command_answers.specs.Chapters.{IsChapterAnswer, origins_of, printed_names, run_chapter};
 
 use crate::answer::{Answer, Answered, GOOD, REFUSED};
 use crate::instance_texts::instance_answer;
 use crate::lines::{document_answer, line_answer};
+use crate::made_jobs::push_made;
 use crate::revises::{Revised, Revision};
 use event_lines::{LineText, RunDigits, put_digits};
 use log_chapters::{Origin, Texts, chapter, has_names};
 use people_names::Names;
+use plan_revise::Change;
 use run_journal::{LogRun, run_of};
 use run_log::run_digits;
 use run_revising::NextRun;
@@ -56,18 +58,27 @@ pub(crate) fn misfit_of(
     if hands_over {
         return Ok(None);
     }
-    let digits = run_digits(alloc, shaped.shop(), shaped.plan())?;
-    Ok(other_plan(run_of(lines), &digits))
+    // The digits take a pass over the plan, so they are asked for only where the log has some.
+    match run_of(lines) {
+        LogRun::Named(named) => other_plan(alloc, shaped, named),
+        LogRun::Unbegun | LogRun::Unnamed => Ok(None),
+    }
 }
 
-/// The misfit of a log that names another plan than the one with these digits.
-fn other_plan(run: LogRun, digits: &RunDigits) -> Option<LogMisfit>
-    ensures { MatchOption result (IsForPlan digits.now run) (λ misfit.
-        (named : RunDigits) × (misfit ≡ LogMisfit.OtherPlan named) × (run ≡ LogRun.Named named) × (named ≢ digits.now)) }
+/// The misfit of a log whose last line of a plan has these digits, if they aren't those of this plan.
+fn other_plan(
+    alloc: Global,
+    shaped: &Shaped,
+    named: RunDigits,
+) -> Result<Option<LogMisfit>, AllocError>
+    ensures { IfOk result (λ found. MatchOption found (named ≡ digits_of shaped.now.shop shaped.now.plan) (λ misfit.
+        (misfit ≡ LogMisfit.OtherPlan named) × (named ≢ digits_of shaped.now.shop shaped.now.plan))) }
 {
-    match run {
-        LogRun::Named(named) if named != *digits => Some(LogMisfit::OtherPlan(named)),
-        LogRun::Named(_) | LogRun::Unbegun | LogRun::Unnamed => None,
+    let digits = run_digits(alloc, shaped.shop(), shaped.plan())?;
+    if named == digits {
+        Ok(None)
+    } else {
+        Ok(Some(LogMisfit::OtherPlan(named)))
     }
 }
 
@@ -98,14 +109,20 @@ pub(crate) fn chapter_answer(
     next: &NextRun,
     description: &[u8],
     names: &Names,
-    named: bool,
+    wanted: Revision<'_>,
 ) -> Answered
-    ensures { IsChapterAnswer description.now names.now named next.now result }
+    ensures { let asked = asked wanted.entry in
+        IsChapterAnswer description.now asked.changes names.now (is_some asked.names) next.now result }
 {
     let file = instance_answer(alloc, description, next.shaped.shop())?;
     let plan = document_answer(alloc, next.shaped.plan(), GOOD)?;
-    let names = printed_names(alloc, next, names, named)?;
-    let answer = texts_answer(alloc, next, &file.text, &plan.text, lent(&names));
+    let names = printed_names(alloc, names, wanted.names.is_some())?;
+    let texts = Texts {
+        file: &file.text,
+        plan: &plan.text,
+        names: lent(&names),
+    };
+    let answer = texts_answer(alloc, next, wanted.changes, texts);
     drop(names);
     Ok(answer?)
 }
@@ -120,51 +137,45 @@ fn lent(text: &Option<Vec<u8>>) -> Option<&[u8]>
     }
 }
 
-/// The names of what is left, if any are given.
-fn printed_names(
-    alloc: Global,
-    next: &NextRun,
-    names: &Names,
-    named: bool,
-) -> Result<Option<Vec<u8>>, AllocError>
-    ensures { IfOk result (λ text. list_of text ≡ printed_names names.now named next.now) }
+/// The text of the names, if any are given.
+fn printed_names(alloc: Global, names: &Names, named: bool) -> Result<Option<Vec<u8>>, AllocError>
+    ensures { IfOk result (λ text. list_of text ≡ printed_names names.now named) }
 {
     if named {
-        let left = names.kept(alloc, &next.were, next.shaped.machine_count())?;
-        Ok(Some(left.text(alloc)?))
+        Ok(Some(names.text(alloc)?))
     } else {
         Ok(None)
     }
 }
 
-/// The log of a run and its plan that begins with these texts.
+/// The log of a run and its plan, by these changes, that begins with these texts.
 fn texts_answer(
     alloc: Global,
     next: &NextRun,
-    file: &[u8],
-    plan: &[u8],
-    names: Option<&[u8]>,
+    changes: &[Change<'_>],
+    texts: Texts<'_>,
 ) -> Result<Answer, AllocError>
-    ensures { IfOk result
-        (λ answer. (answer.text.items ≡ run_chapter file.now plan.now (option_copied names.entry) next.now)
+    ensures { IfOk result (λ answer. (answer.text.items
+        ≡ run_chapter texts.entry.file.now texts.entry.plan.now (option_copied texts.entry.names) changes.now next.now)
         × (answer.status ≡ 0)) }
 {
-    let origins = origins_of(alloc, next)?;
+    let origins = origins_of(alloc, next, changes)?;
     let digits = run_digits(alloc, next.shaped.shop(), next.shaped.plan())?;
-    let texts = Texts { file, plan, names };
     let text = chapter(alloc, &texts, &origins, &next.entries, &digits)?;
     Ok(Answer { text, status: GOOD })
 }
 
-/// What each job was: those that were there had numbers, and the others are new.
-fn origins_of(alloc: Global, next: &NextRun) -> Result<Vec<Origin>, AllocError>
-    ensures { IfOk result (λ origins. origins.items ≡ origins_of next.now) }
+/// What each job was: those that stay had numbers, and the others are made by changes.
+fn origins_of(
+    alloc: Global,
+    next: &NextRun,
+    changes: &[Change<'_>],
+) -> Result<Vec<Origin>, AllocError>
+    ensures { IfOk result (λ origins. origins.items ≡ origins_of changes.now next.now) }
 {
-    let count = (next.shaped.job_count() as usize).saturating_sub(next.were.len());
-    let new = vec![in alloc; Origin::New; count]?;
     let mut origins = Vec::new(alloc);
     push_old(&mut origins, &next.were)?;
-    origins.extend_from_slice(&new)?;
+    push_made(&mut origins, changes)?;
     Ok(origins)
 }
 

@@ -9,12 +9,12 @@ ghost use Rattle.command_answers.specs.ImprovingRests.{improve_command_fault};
 ghost use Rattle.command_answers.specs.LogLines.{audit_command_fault};
 ghost use Rattle.command_answers.specs.Moves.{moves_command_fault};
 ghost use Rattle.command_answers.specs.InstanceTexts.{unwritten_fault};
-ghost use Rattle.command_answers.specs.Revising.{unrevised_of};
+ghost use Rattle.command_answers.specs.Revising.{refusal_name, unrevised_of};
 ghost use Rattle.command_answers.specs.Statuses.{command_status_of};
 
 use cell_control::RestFault;
 use orlib_read::{NotWritten, OrFault};
-use people_names::NamesFault;
+use people_names::{JobNameFault, NamesFault};
 use plan_improve::ImproveFault;
 use plan_revise::{ChangeFault, NotRevised};
 use plan_seek::SeekFault;
@@ -119,11 +119,40 @@ impl From<NotWritten> for CommandFault {
     }
 }
 
+/// Why a change can't be: for itself, or for the name of the job that it makes.
+#[derive(Clone, Copy)]
+pub(crate) enum ChangeRefusal {
+    OfShop(ChangeFault),
+    OfName(JobNameFault),
+}
+
+impl ChangeRefusal {
+    /// The name of the reason.
+    pub(crate) fn name(self) -> &'static str
+        ensures { result.now ≡ refusal_name self }
+    {
+        match self {
+            ChangeRefusal::OfShop(fault) => fault.name(),
+            ChangeRefusal::OfName(fault) => fault.name(),
+        }
+    }
+}
+
 /// Why nothing is changed: a change that can't be, by its place, or the fault of the command.
 #[derive(Drop)]
 pub(crate) enum Unrevised {
-    Refused { change: usize, fault: ChangeFault },
+    Refused { change: usize, why: ChangeRefusal },
     Ends(CommandFault),
+}
+
+impl From<AllocError> for Unrevised {
+    ghost use Rattle.command_answers.specs.declared.command_fault.Unrevised.TheVariants.{Ends};
+
+    ghost from_gives = { λ _ unrevised. unrevised ≡ Ends Memory };
+
+    fn from(error: AllocError) -> Unrevised {
+        Unrevised::Ends(CommandFault::from(error))
+    }
 }
 
 impl From<NotRevised> for Unrevised {
@@ -132,7 +161,10 @@ impl From<NotRevised> for Unrevised {
     fn from(cause: NotRevised) -> Unrevised {
         match cause {
             NotRevised::Memory => Unrevised::Ends(CommandFault::Memory),
-            NotRevised::Refused { change, fault } => Unrevised::Refused { change, fault },
+            NotRevised::Refused { change, fault } => Unrevised::Refused {
+                change,
+                why: ChangeRefusal::OfShop(fault),
+            },
         }
     }
 }

@@ -1,6 +1,7 @@
 //! The command `revise`.
 
-ghost use Rattle.std.specs.Prelude.{◌≡◌, ◌≤◌, ◌++◌, [], IfOk, IfSome, OnOk, map, get_or, is_some};
+ghost use Rattle.std.specs.Prelude.{◌≡◌, ◌≤◌, ◌<◌, ◌⊎◌, ◌++◌, [], IfOk, IfSome, OnOk, map, get_or, is_some, length};
+ghost use Rattle.run_revising.specs.declared.next.NextRun.{NextRun};
 ghost use Rattle.shop_base.specs.declared.limits.TheConstants.{MAX_MOMENT};
 ghost use Rattle.cell_tables.specs.Events.{events_of};
 ghost use Rattle.run_log.specs.Audits.{IsReplayed};
@@ -9,18 +10,20 @@ ghost use Rattle.command_answers.specs.Asked.{asked};
 ghost use Rattle.command_answers.specs.Chapters.{FitsLog, is_log, leaves_out};
 ghost use Rattle.command_answers.specs.Commands.{RunsRevise, RevisesShaped, IfShaped};
 ghost use Rattle.command_answers.specs.Naming.{ReadsNames};
-ghost use Rattle.command_answers.specs.Revising.{IsChanged, IsPrinted, IsReviseAnswer, IsPlaced};
+ghost use Rattle.command_answers.specs.Revising.{IsChanged, IsNamedAnswer, IsPrinted, IsRefusedBehind, IsReviseAnswer, IsRunAfter, IsPlaced};
+ghost use Rattle.command_answers.specs.Revising.{IsUnnamedAnswer};
 ghost use Rattle.command_answers.specs.Revising.{IsRevisedRest, IsRunRevised, IsUnrevised, change_refused_line};
 ghost use Rattle.command_answers.specs.Revising.{flag_of, is_visible, visible_part};
-ghost use Rattle.command_answers.specs.Steps.{Concludes, Then};
+ghost use Rattle.command_answers.specs.Steps.{Concludes, IsOrMemory, Then};
 ghost use Rattle.command_answers.specs.Texts.{Asks};
 
 use crate::answer::{Answer, Answered, GOOD, REFUSED};
 use crate::chapters::{chapter_answer, misfit_answer, misfit_of};
-use crate::command_fault::Unrevised;
+use crate::command_fault::{ChangeRefusal, CommandFault, Unrevised};
 use crate::inputs::{InputPaths, ParsedInputs};
 use crate::instance_texts::instance_answer;
 use crate::lines::document_answer;
+use crate::made_jobs::names_given;
 use crate::naming::names_and_log;
 use crate::parsing::{instance, plan};
 use crate::rest_improves::cycle_answer;
@@ -29,7 +32,7 @@ use crate::shapes::not_shaped_answer;
 use crate::texts::Texts;
 use orlib_read::Named;
 use people_names::Names;
-use plan_revise::{Change, ChangeFault};
+use plan_revise::{Change, ChangeFault, NotRevised};
 use plan_verifier::{Judged, Why, judge};
 use run_log::{LoggedRest, rest_at};
 use run_revising::{NextRun, next_run};
@@ -64,12 +67,14 @@ impl Revised {
 }
 
 /// What is asked for: the present moment, if another one than the log's last is given, the changes in the order in
-/// which they are made, the value of each one's word, what is printed, and the file of names, if there is one.
+/// which they are made, the value of each one's word, the name of the job that it makes, if one is given, what is printed,
+/// and the file of names, if there is one.
 #[derive(Clone, Copy)]
 pub struct Revision<'a> {
     pub at: Option<Moment>,
     pub changes: &'a [Change<'a>],
     pub values: &'a [&'a str],
+    pub called: &'a [Option<&'a str>],
     pub prints: Revised,
     pub names: Option<&'a str>,
 }
@@ -241,29 +246,104 @@ fn changed(
     let leaves_out = wanted.prints.leaves_out();
     match next_run(alloc, &run.rest, &run.entries, leaves_out, wanted.changes) {
         Ok(next) => {
-            let answer = printed(alloc, &next, description, names, wanted);
+            let answer = named(alloc, &next, description, names, wanted);
             drop(next);
             answer
         }
-        Err(cause) => unrevised(alloc, Unrevised::from(cause), wanted),
+        Err(NotRevised::Refused { change, fault }) => {
+            refused(alloc, run, names, wanted, change, fault)
+        }
+        Err(NotRevised::Memory) => Err(CommandFault::Memory),
+    }
+}
+
+/// What is printed of a run and its plan that all changes have made, with the names of all jobs, or the line of the first
+/// whose job doesn't get its name.
+fn named(
+    alloc: Global,
+    next: &NextRun,
+    description: &[u8],
+    names: &Names,
+    wanted: Revision<'_>,
+) -> Answered
+    ensures { IsNamedAnswer (asked wanted.entry) description.now names.now next.now result
+        ⊎ IsOrMemory (IsUnnamedAnswer (asked wanted.entry) names.now next.now wanted.entry.changes.now) result }
+{
+    match names_given(alloc, names, next, wanted.called, wanted.changes) {
+        Ok(given) => {
+            let answer = printed(alloc, next, description, &given, wanted);
+            drop(given);
+            answer
+        }
+        Err(why) => unrevised(alloc, why, wanted),
+    }
+}
+
+/// The line of the first change that isn't taken, or of one before it whose job doesn't get its name. Which jobs stay
+/// doesn't depend on changes, so without any none is refused.
+fn refused(
+    alloc: Global,
+    run: &LoggedRest<Shaped>,
+    names: &Names,
+    wanted: Revision<'_>,
+    change: usize,
+    fault: ChangeFault,
+) -> Answered
+    requires replayed { IsReplayed run.now.rest.plan run.now.rest.cell run.now.entries.items }
+    requires placed { change < length wanted.changes.now }
+    ensures { let r = run.now.rest in IsOrMemory (λ answer. (left : NextRun)
+        × IsRunAfter (asked wanted.entry) r.plan r.cell r.present (events_of run.now.entries.items) [] left
+        × IsRefusedBehind (asked wanted.entry) names.now left change fault answer) result }
+{
+    let leaves_out = wanted.prints.leaves_out();
+    match next_run(alloc, &run.rest, &run.entries, leaves_out, &[]) {
+        Ok(left) => {
+            let answer = refused_behind(alloc, &left, names, wanted, change, fault);
+            drop(left);
+            answer
+        }
+        Err(NotRevised::Memory) => Err(CommandFault::Memory),
+        Err(NotRevised::Refused { .. }) => unreachable!(),
+    }
+}
+
+/// The line of a change that isn't taken, or of one before it whose job doesn't get its name behind the jobs that stay.
+fn refused_behind(
+    alloc: Global,
+    left: &NextRun,
+    names: &Names,
+    wanted: Revision<'_>,
+    change: usize,
+    fault: ChangeFault,
+) -> Answered
+    requires { change < length wanted.changes.now }
+    ensures { IsOrMemory (IsRefusedBehind (asked wanted.entry) names.now left.now change fault) result }
+{
+    match names_given(alloc, names, left, wanted.called, &wanted.changes[..change]) {
+        Ok(given) => {
+            drop(given);
+            let why = ChangeRefusal::OfShop(fault);
+            unrevised(alloc, Unrevised::Refused { change, why }, wanted)
+        }
+        Err(why) => unrevised(alloc, why, wanted),
     }
 }
 
 /// What is answered where nothing is changed.
 fn unrevised(alloc: Global, why: Unrevised, wanted: Revision<'_>) -> Answered
     requires { IsPlaced wanted.changes.now why }
-    ensures { IsUnrevised wanted.entry.changes.now (map (λ value. value.now) wanted.entry.values.now) why result }
+    ensures { IsUnrevised (asked wanted.entry) why result }
 {
     match why {
-        Unrevised::Refused { change, fault } => {
+        Unrevised::Refused { change, why } => {
             let value = value_at(wanted.values, change);
-            Ok(refused_answer(alloc, wanted.changes[change], value, fault)?)
+            Ok(refused_answer(alloc, wanted.changes[change], value, why)?)
         }
         Unrevised::Ends(fault) => Err(fault),
     }
 }
 
-/// What is printed of a run and its plan.
+/// What is printed of a run and its plan, by these names.
 fn printed(
     alloc: Global,
     next: &NextRun,
@@ -279,7 +359,7 @@ fn printed(
         Revised::LogText {
             leaves_out: _,
             hands_over: _,
-        } => chapter_answer(alloc, next, description, names, wanted.names.is_some()),
+        } => chapter_answer(alloc, next, description, names, wanted),
     }
 }
 
@@ -298,17 +378,17 @@ fn refused_answer(
     alloc: Global,
     change: Change<'_>,
     value: &str,
-    fault: ChangeFault,
+    why: ChangeRefusal,
 ) -> Result<Answer, AllocError>
     ensures { IfOk result
-        (λ answer. (answer.text.items ≡ change_refused_line change.entry value.now fault) × (answer.status ≡ 1)) }
+        (λ answer. (answer.text.items ≡ change_refused_line change.entry value.now why) × (answer.status ≡ 1)) }
 {
     let (mut text, status) = (Vec::new(alloc), REFUSED);
     text.extend_from_slice(b"change refused ")?;
     text.extend_from_slice(flag_of(change).as_bytes())?;
     push_printable(&mut text, value.as_bytes())?;
     text.push(b' ')?;
-    text.extend_from_slice(fault.name().as_bytes())?;
+    text.extend_from_slice(why.name().as_bytes())?;
     text.push(b'\n')?;
     Ok(Answer { text, status })
 }
@@ -328,7 +408,7 @@ fn flag_of(change: Change<'_>) -> &'static str
         Change::Release { job: _, release: _ } => "--release ",
         Change::Budget { job: _, budget: _ } => "--budget ",
         Change::Scrap { job: _ } => "--scrap ",
-        Change::Down { machine: _ } => "--down ",
+        Change::Down { machine: _ } | Change::Hold { machine: _, to: _ } => "--down ",
     }
 }
 

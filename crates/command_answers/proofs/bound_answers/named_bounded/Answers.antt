@@ -1,5 +1,5 @@
-use Rattle.std.proofs.Common.{Ok, inl, inr, refl, subst}
-use Rattle.shop_base.specs.Plan.{PlannedShop, IsWellShaped}
+use Rattle.std.proofs.Common.{inr, refl, subst}
+use Rattle.shop_base.specs.Plan.{PlannedShop}
 use Rattle.shop_base.specs.ShapeFault.{IsFirstShapeFault}
 use Rattle.command_answers.proofs.bound_answers.named_bounded.Goals as goal
 

@@ -1,7 +1,5 @@
-use Rattle.std.proofs.Common.{Err, ap, ◌∙◌, subst}
-use Rattle.std.proofs.lemmas.Result.{err_from_is_err_and}
 use Rattle.std.specs.Option.{option_copied}
-use Rattle.command_answers.proofs.CellPlans.{loads_for, loads_none}
+use Rattle.command_answers.proofs.CellPlans.{loads_for}
 use Rattle.command_answers.proofs.cells.load_one.Goals as goal
 
 pub returns-clause-loaded : goal.returns-clause-loaded

@@ -1,4 +1,4 @@
-use Rattle.std.proofs.Common.{rules, ℕ, ◌<◌, Some, IfSome}
+use Rattle.std.proofs.Common.{rules, ℕ, ◌<◌, IfSome}
 use Rattle.shop_base.specs.Plan.{jobs}
 use Rattle.command_answers.specs.Commands.{WithNamesAndRun}
 use Rattle.command_answers.specs.KnownRests.{IsFoundRest, IsInstead}

@@ -1,4 +1,4 @@
-use Rattle.std.proofs.Common.{Ok, refl}
+use Rattle.std.proofs.Common.{refl}
 use Rattle.command_answers.specs.declared.command_fault.CommandFault.TheVariants.{Memory}
 use Rattle.command_answers.specs.Shapes.{IsShapeLine}
 use Rattle.command_answers.specs.Steps.{IsOrMemory}
