@@ -21,7 +21,7 @@ use Rattle.cell_drive.specs.Resuming.{session_from}
 use Rattle.cell_drive.specs.InProtocol.{IsResumeIn}
 use Rattle.command_words.specs.declared.words.Chosen.{Chosen}
 use Rattle.command_words.specs.declared.words.CommandName.{CommandName}
-use Rattle.command_words.specs.declared.words.CommandName.TheVariants.{Input as NoWords, Facts, Shape, Check, Explain, Schedule, Bounds, Margin, Plan as Search, Improve, Decide, Revise, Drive, Resume, Hub, Digest, Audit, Gantt}
+use Rattle.command_words.specs.declared.words.CommandName.TheVariants.{Input as NoWords, Facts, Shape, Check, Explain, Schedule, Bounds, Margin, Plan as Search, Improve, Decide, Revise, Drive, Resume, Hub, Digest, Audit, State, Gantt}
 use Rattle.command_words.specs.declared.words.WordsFault.{WordsFault}
 use Rattle.command_words.specs.declared.words.WordsFault.TheVariants.{Usage, Memory as NoWordsMemory}
 use Rattle.command_words.specs.Choice.{IsChoiceOf, NamesOneOf, reasons_in, found_in}
@@ -48,7 +48,7 @@ use Rattle.command_run.specs.Resumes.{IsRecovery, ResumesRecovered, ResumesText,
 use Rattle.command_run.specs.Hubs.{AreDrivesIn, DrivesAll}
 use Rattle.command_run.specs.Ending.{Ends, EndsBy, EndsAside, IsPrinted, IsFaultPrinted, IsPrintedAfter, IsTextRefusal, IsLineOut, WasPrinted}
 use Rattle.command_run.specs.Logs.{LogEnd, is_driven, step_of}
-use Rattle.command_run.specs.Program.{AreWordsRead, RunsApart, RunsBy, RunsCommand, RunsChosen, Follows, starts_again, status_by, draws_in, file_at, form_in, kept_log_in, log_in, protocol_in, name_in, names_file, inputs_in, plans_in, run_in}
+use Rattle.command_run.specs.Program.{AreWordsRead, RunsApart, RunsBy, RunsCommand, RunsChosen, Follows, starts_again, status_by, draws_in, file_at, form_in, kept_log_in, protocol_in, name_in, names_file, inputs_in, plans_in, run_in}
 use Rattle.command_run.specs.Laws.{IsOutcomeOfWords, IsFailureOf, PrintsFaultsAlone, OutputHoldsNothing, WereDriven, WereRefused, IsUnanswered, Ran, RanCommand, WroteNoMore}
 use Rattle.command_run.proofs.LowStatuses.{IsLow, low}
 use Rattle.command_run.proofs.Keepers.{keeper}
@@ -222,6 +222,7 @@ module _ {W : Type 0} (gives : W → List ℕ → Result (List ℕ) CommandFault
   written Hub later outcome run = hub_written run.loaded later outcome run.loads run.drives
   written Digest later outcome run = kept Digest run.1
   written Audit later outcome run = kept Audit run.1
+  written State later outcome run = kept State run.1
   written Gantt later outcome run = drawing_written chosen.svg later outcome run
 
 -- ---- what is shown

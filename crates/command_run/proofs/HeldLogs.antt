@@ -1,5 +1,5 @@
 -- What is held after a run with a log.
-use Rattle.std.proofs.Common.{◌≡◌, ◌⊎◌, ℕ, List, [], Bool, false, true, inl, inr, option_map, Option, None, Some, IfSome, Result, Ok, Err, IfOk, ap, sym, ◌∙◌, subst, refl}
+use Rattle.std.proofs.Common.{◌≡◌, ◌⊎◌, ℕ, List, [], Bool, false, true, inl, inr, option_map, Option, None, Some, IfSome, Result, Ok, Err, IfOk, sym, subst, refl}
 use Rattle.std.specs.Prelude.{IsOk, MatchOption, is_some}
 use Rattle.text_lines.specs.Lines.{ended_lines}
 use Rattle.shop_base.specs.Plan.{PlannedShop}

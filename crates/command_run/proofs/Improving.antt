@@ -1,5 +1,5 @@
 -- A search for better plans by improvers that may answer more.
-use Rattle.std.proofs.Common.{◌≡◌, ℕ, zero, suc, ◌<◌, List, [], ◌∷◌, Option, Result, Ok, Err, Some, inl, inr, length, slice_get, subst, refl, arith}
+use Rattle.std.proofs.Common.{◌≡◌, ℕ, zero, suc, ◌<◌, List, [], ◌∷◌, Result, Ok, Err, Some, inl, inr, length, slice_get, subst, refl, arith}
 use Rattle.std.proofs.lemmas.Option.{slice_get_within}
 use Rattle.shop_base.specs.Plan.{PlannedShop}
 use Rattle.plan_seek.specs.Orders.{Proposal}

@@ -1,5 +1,5 @@
 -- How a driven cell with a log of its own ends.
-use Rattle.std.proofs.Common.{◌≡◌, ℕ, suc, List, [], ◌∷◌, Bool, true, false, Option, None, Some, Result, Ok, Err, IfOk, is_some, option_map, inl, inr, ◌⊎◌, arith, ap, sym, subst, refl}
+use Rattle.std.proofs.Common.{◌≡◌, ℕ, suc, List, [], ◌∷◌, Bool, true, false, Option, None, Some, Result, Ok, Err, IfOk, is_some, option_map, inl, inr, ◌⊎◌, arith, ap, sym, subst}
 use Rattle.shop_base.specs.declared.shape_fault.ShapeFault.{ShapeFault}
 use Rattle.shop_base.specs.Plan.{PlannedShop}
 use Rattle.plan_verifier.specs.declared.verdict.Verdict.{Verdict}

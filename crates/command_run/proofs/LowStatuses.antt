@@ -1,5 +1,5 @@
 -- The status of an answer is that of a good one or of one that refuses.
-use Rattle.std.proofs.Common.{◌≡◌, ℕ, ◌≤◌, List, [], ◌∷◌, Bool, true, false, Option, None, Some, Result, Ok, Err, inl, inr, is_some, subst, sym, arith}
+use Rattle.std.proofs.Common.{◌≡◌, ℕ, ◌≤◌, ◌⊎◌, List, [], ◌∷◌, Bool, true, false, Option, None, Some, Result, Ok, Err, inl, inr, is_some, subst, sym, arith}
 use Rattle.plan_verifier.specs.Accepted.{VerifiedPlan}
 use Rattle.plan_verifier.specs.declared.verdict.Verdict.{Verdict}
 use Rattle.plan_verifier.specs.declared.verdict.Verdict.TheVariants.{Accepted, Refused}
@@ -7,9 +7,8 @@ use Rattle.plan_verifier.specs.declared.verdict.Judged.{Judged as JudgedRest}
 use Rattle.plan_verifier.specs.declared.verdict.Judged.TheVariants.{Accepted as InTime, Refused as NotInTime}
 use Rattle.plan_verifier.specs.declared.verdict.Why.TheVariants.{Cycle, Late}
 use Rattle.shop_base.specs.Cell.{Cell, start}
-use Rattle.cell_tables.specs.declared.entry.Entry.{Entry}
 use Rattle.run_picture.specs.declared.visit.DrawnVisit.{DrawnVisit}
-use Rattle.people_names.specs.NameBooks.{NameBook, no_names}
+use Rattle.people_names.specs.NameBooks.{NameBook}
 use Rattle.plan_seek.specs.Tasks.{task_in}
 use Rattle.plan_seek.specs.Turns.{PlanSearch}
 use Rattle.plan_seek.specs.declared.seek_fault.SeekFault.{SeekFault}
@@ -20,7 +19,6 @@ use Rattle.plan_decide.specs.Pasts.{whole_case}
 use Rattle.shop_base.specs.declared.shape_fault.ShapeFault.{ShapeFault}
 use Rattle.shop_base.specs.Shop.{JobShop}
 use Rattle.shop_base.specs.Plan.{PlannedShop, ShopPlan}
-use Rattle.shop_base.specs.Run.{ends_in}
 use Rattle.cell_tables.specs.Events.{events_of}
 use Rattle.plan_revise.specs.declared.change.Change.{Change}
 use Rattle.command_words.specs.declared.words.changes.AskedChange.{AskedChange}
@@ -28,10 +26,14 @@ use Rattle.command_answers.specs.declared.revises.Revised.{Revised}
 use Rattle.command_answers.specs.declared.revises.Revised.TheVariants.{PlanText, InstanceText, LogText}
 use Rattle.command_answers.specs.Documents.{IsDocumentAnswer}
 use Rattle.run_revising.specs.declared.next.NextRun.{NextRun}
+use Rattle.orlib_read.specs.declared.named.Named.{Named}
 use Rattle.command_answers.specs.Asked.{AskedRevision}
+use Rattle.command_answers.specs.Naming.{ReadsNames}
 use Rattle.command_answers.specs.Chapters.{IsChapterAnswer, IsMisfitLine, IsPrintedAs}
 use Rattle.command_answers.specs.InstanceTexts.{IsInstanceAnswer}
-use Rattle.command_answers.specs.Revising.{IsReviseAnswer, IsRevisedRest, IsRunRevised}
+use Rattle.command_answers.specs.Revising.{IsChangeRefused, IsNamedAnswer, IsRefusedBehind, IsReviseAnswer, IsRevisedRest, IsRunRevised, IsUnnamedAnswer}
+use Rattle.command_answers.specs.MadeJobs.{names_given}
+use Rattle.plan_revise.specs.declared.change.ChangeFault.{ChangeFault}
 use Rattle.command_words.specs.declared.words.printed.Prints.{Prints}
 use Rattle.command_run.specs.Revisions.{Revises, revision_asked}
 use Rattle.byte_streams.specs.declared.drive_fault.DriveFault.{DriveFault}
@@ -45,7 +47,7 @@ use Rattle.run_log.specs.declared.audit_fault.AuditFault.{AuditFault}
 use Rattle.run_log.specs.declared.audit_fault.AuditFault.TheVariants.{BadLine, NotExpected, Backwards, NotReady, Occupied, OutOfOrder, WrongPlace, NotClean, Memory as NoMemoryToAudit}
 use Rattle.command_words.specs.declared.words.Chosen.{Chosen}
 use Rattle.command_words.specs.declared.words.CommandName.{CommandName}
-use Rattle.command_words.specs.declared.words.CommandName.TheVariants.{Input as NoWords, Facts, Shape, Check, Explain, Schedule, Bounds, Margin, Plan, Improve, Decide, Revise, Drive, Resume, Hub, Digest, Audit, Gantt}
+use Rattle.command_words.specs.declared.words.CommandName.TheVariants.{Input as NoWords, Facts, Shape, Check, Explain, Schedule, Bounds, Margin, Plan, Improve, Decide, Revise, Drive, Resume, Hub, Digest, Audit, State, Gantt}
 use Rattle.command_answers.specs.declared.answer.Answer.{Answer}
 use Rattle.command_answers.specs.declared.cells.Cells.{Cells}
 use Rattle.command_answers.specs.declared.cells.Cells.TheVariants.{Accepted as AllAccepted, Line}
@@ -55,7 +57,7 @@ use Rattle.command_answers.specs.declared.loading.Loaded.TheVariants.{NotShaped,
 use Rattle.command_answers.specs.Steps.{Then, AndThen, Concludes, IsOrMemory}
 use Rattle.command_answers.specs.Parsed.{AreFactsAnswered}
 use Rattle.command_answers.specs.Shapes.{IsShapeLine, IsNotShapedLine}
-use Rattle.command_answers.specs.Checks.{IsCheckLine, IsLineOf, accepted_in, verdict_status}
+use Rattle.command_answers.specs.Checks.{IsLineOf, accepted_in, verdict_status}
 use Rattle.command_answers.specs.AskedJobs.{IsNoJobLine}
 use Rattle.command_answers.specs.Texts.{Asks}
 use Rattle.command_answers.specs.Naming.{ReadsNames}
@@ -69,17 +71,18 @@ use Rattle.command_answers.specs.Improving.{IsStatusOf, IsBestAnswer, SearchBy, 
 use Rattle.command_answers.specs.Search.{IsSearchLine, IsSearchAnswer, IsNoPlanLine}
 use Rattle.command_answers.specs.declared.logs.LogAnswer.{LogAnswer}
 use Rattle.command_answers.specs.declared.logs.LogAnswer.TheVariants.{Numbers, Drawing}
-use Rattle.command_answers.specs.LogLines.{IsFaultLine, IsLogFaultAnswer, IsLogLine, IsLogRefused}
+use Rattle.command_answers.specs.LogLines.{IsFaultLine, IsLogFaultAnswer, IsLogLine}
 use Rattle.command_answers.specs.declared.rests.PlanAnswer.{PlanAnswer}
 use Rattle.command_answers.specs.declared.rests.PlanAnswer.TheVariants.{Verdict as OfVerdict, Reasons, Moments}
 use Rattle.command_answers.specs.Rests.{IsPastLine, IsRunRefused, IsRestLine, job_asked}
 use Rattle.command_answers.specs.declared.pictures.Drawn.{Drawn}
 use Rattle.command_answers.specs.declared.pictures.Drawn.TheVariants.{Picture, Line as LineDrawn}
 use Rattle.command_answers.specs.Pictures.{IsLineAlone, IsLogDrawn, IsRestDrawing, IsRestDrawn, IsVerdictDrawn}
-use Rattle.command_answers.specs.Commands.{AsksOfRun, BettersPlan, DecidesPlan, IfFit, IfShaped, IfShapedBy, IfThere, IfThereBy, InputPaths, Itself, RunPaths, RevisesShaped, RunsLog, RunsRest, WithBoth, WithNames, WithNamesAndRun, WithRun, WithSoundNames}
+use Rattle.command_answers.specs.Commands.{AsksOfRun, BettersPlan, DecidesPlan, IfFit, IfShaped, IfShapedBy, IfThere, IfThereBy, InputPaths, Itself, ReadsInstance, ReadsPlan, RunPaths, RevisesShaped, RunsRevise, RunsLog, RunsState, RunsRest, WithBoth, WithNames, WithNamesAndRun, WithRun, WithSoundNames}
 use Rattle.command_answers.specs.Cells.{IsCellLine, AfterPlan, LoadsEach}
 use Rattle.command_answers.specs.Digests.{IsDigestAnswer}
 use Rattle.command_answers.specs.Margins.{IsMarginAnswer}
+use Rattle.command_answers.specs.States.{IsStateLine}
 use Rattle.command_answers.specs.Moves.{AreMovesAhead}
 use Rattle.command_answers.proofs.AskedRuns.{OnLog, logged}
 use Rattle.command_answers.proofs.RestAnswers.{low_ahead, low_rest}
@@ -181,6 +184,10 @@ low_run_refused : (at : Option ℕ) (lines : List (List ℕ)) (p : PlannedShop) 
 low_run_refused at lines p answer (inl refused) = one_low answer.status refused.line.1
 low_run_refused at lines p answer (inr past) = one_low answer.status past.line.1
 
+low_state : (names : NameBook) (at : Option ℕ) (p : PlannedShop) (log : List ℕ) (answer : Answer) → IsStateLine names at p log answer → answer.status ≤ 1
+low_state names at p log answer (inl run) = zero_low answer.status run.comes.good
+low_state names at p log answer (inr refused) = low_run_refused at (ended_lines log) p answer refused
+
 module _ (names : NameBook) where
   low_decision : (t : Case) (aim : Aim) (answer : Answer) → IsDecisionText names t aim answer → answer.status ≤ 1
   low_decision t aim answer (inl kept) = zero_low answer.status kept.text.ends
@@ -233,15 +240,28 @@ low_document : (plan : ShopPlan) (outcome : Result Answer CommandFault) → IsDo
 low_document plan (Ok answer) text = zero_low answer.status text.ends
 low_document plan (Err fault) is = tt
 
-low_chapter : (description : List ℕ) (book : NameBook) (named : Bool) (next : NextRun) (outcome : Result Answer CommandFault) → IsChapterAnswer description book named next outcome → IsLow outcome
-low_chapter description book named next (Ok answer) text = zero_low answer.status text.good
-low_chapter description book named next (Err fault) is = tt
+low_chapter : (description : List ℕ) (changes : List Change) (book : NameBook) (named : Bool) (next : NextRun) (outcome : Result Answer CommandFault)
+    → IsChapterAnswer description changes book named next outcome → IsLow outcome
+low_chapter description changes book named next (Ok answer) text = zero_low answer.status text.good
+low_chapter description changes book named next (Err fault) is = tt
 
-low_printed : (prints : Revised) (description : List ℕ) (book : NameBook) (named : Bool) (next : NextRun) (outcome : Result Answer CommandFault)
-    → IsPrintedAs prints description book named next outcome → IsLow outcome
-low_printed PlanText description book named next outcome is = low_document next.shaped.plan outcome is
-low_printed InstanceText description book named next outcome is = low_instance description next.shaped.shop outcome is
-low_printed (LogText leaves_out hands_over) description book named next outcome is = low_chapter description book named next outcome is
+low_printed : (prints : Revised) (description : List ℕ) (changes : List Change) (book : NameBook) (named : Bool) (next : NextRun) (outcome : Result Answer CommandFault)
+    → IsPrintedAs prints description changes book named next outcome → IsLow outcome
+low_printed PlanText description changes book named next outcome is = low_document next.shaped.plan outcome is
+low_printed InstanceText description changes book named next outcome is = low_instance description next.shaped.shop outcome is
+low_printed (LogText leaves_out hands_over) description changes book named next outcome is = low_chapter description changes book named next outcome is
+
+-- where all changes are taken, and where one isn't
+low_taken : (asked : AskedRevision) (description : List ℕ) (book : NameBook) (next : NextRun) (outcome : Result Answer CommandFault)
+    → IsNamedAnswer asked description book next outcome ⊎ IsOrMemory (IsUnnamedAnswer asked book next asked.changes) outcome → IsLow outcome
+low_taken asked description book next outcome (inl text) =
+    low_printed asked.prints description asked.changes (names_given asked.called book next asked.changes) (is_some asked.names) next outcome text.printed
+low_taken asked description book next outcome (inr unnamed) =
+    low_or (IsUnnamedAnswer asked book next asked.changes) outcome (λ answer line. one_low answer.status line.line.refused) unnamed
+
+low_behind : (asked : AskedRevision) (book : NameBook) (left : NextRun) (place : ℕ) (fault : ChangeFault) (answer : Answer) → IsRefusedBehind asked book left place fault answer → answer.status ≤ 1
+low_behind asked book left place fault answer (inl shop) = one_low answer.status shop.line.refused
+low_behind asked book left place fault answer (inr unnamed) = one_low answer.status unnamed.line.refused
 
 low_run_revised : (asked : AskedRevision) (description : List ℕ) (book : NameBook) (p : PlannedShop) (log : List ℕ) (outcome : Result Answer CommandFault)
     → IsRunRevised asked description book p log outcome → IsLow outcome
@@ -251,8 +271,10 @@ low_run_revised asked description book p log outcome (inl rest) = go rest.comes
   where
     go : IsRevisedRest asked description book p rest.cell rest.present (events_of rest.entries) outcome → IsLow outcome
     go (inl cycle) = low_or _ outcome (λ answer line. one_low answer.status line.line.1) cycle
-    go (inr (none, inl text)) = low_printed asked.prints description book (is_some asked.names) text.next outcome text.printed
-    go (inr (none, inr refused)) = low_or _ outcome (λ answer line. one_low answer.status line.refused) refused
+    go (inr (none, inl made)) = low_taken asked description book made.next outcome made.named
+    go (inr (none, inr refused)) =
+        low_or (IsChangeRefused asked description book p rest.cell rest.present (events_of rest.entries)) outcome
+        (λ answer line. low_behind asked book line.left line.place line.fault answer line.behind) refused
 
 low_revised : (asked : AskedRevision) (description : List ℕ) (p : PlannedShop) (book : NameBook) (log : List ℕ) (outcome : Result Answer CommandFault)
     → IsReviseAnswer asked description p book log outcome → IsLow outcome
@@ -478,6 +500,11 @@ module _ {W : Type 0} (gives : W → List ℕ → Result (List ℕ) CommandFault
       low_asked gives Itself IsLow low_failed low_said None (λ p book. OnLog (IsLogLine book wanted p)) (logged inputs names log)
       (λ p book. low_on_log IsLow (IsLogLine book wanted p) low_failed (λ text answered. low_or (IsLogLine book wanted p text) answered (low_log book wanted p text))) texts outcome after run
 
+  low_stated : (inputs : InputPaths) (names : Option (List ℕ)) (log : List ℕ) (at : Option ℕ) (texts : W) (outcome : Result Answer CommandFault) (after : W) → RunsState gives inputs names log at texts outcome after → IsLow outcome
+  low_stated inputs names log at texts outcome after run =
+      low_asked gives Itself IsLow low_failed low_said None (λ p book. OnLog (IsStateLine book at p)) (logged inputs names log)
+      (λ p book. low_on_log IsLow (IsStateLine book at p) low_failed (λ text answered. low_or (IsStateLine book at p text) answered (low_state book at p text))) texts outcome after run
+
   low_timetable : (form : Timetable) (run : RunPaths) (texts : W) (before : Streams) (outcome : Result Answer CommandFault) (texts_after : W) (after : Streams)
       → RunsTimetable gives form run texts before outcome texts_after after → IsLow outcome
   low_timetable ByMoments run texts before outcome texts_after after runs = low_asked_rest Moments run texts outcome texts_after runs.0
@@ -517,18 +544,29 @@ module _ {W : Type 0} (gives : W → List ℕ → Result (List ℕ) CommandFault
   low_revises_shaped : (asked : AskedRevision) (description log : List ℕ) (p : PlannedShop) (mid : W) (outcome : Result Answer CommandFault) (after : W)
       → RevisesShaped gives asked description log p mid outcome after → IsLow outcome
   low_revises_shaped asked description log p mid outcome after run =
-      held IsLow _ _ mid outcome after low_failed
-      (λ book later on. held IsLow _ (λ text. Concludes (IsReviseAnswer asked description p book text)) later outcome after low_failed
+      held IsLow (ReadsNames gives asked.names p) (λ book. Then (Asks gives log) (λ text. Concludes (IsReviseAnswer asked description p book text))) mid outcome after low_failed
+      (λ book later on. held IsLow (Asks gives log) (λ text. Concludes (IsReviseAnswer asked description p book text)) later outcome after low_failed
       (λ text last is. low_revised asked description p book text outcome is.0) on) run
+
+  -- once the instance is read
+  low_revises_read : (asked : AskedRevision) (description log : List ℕ) (shop : JobShop) (plan : List ℕ) (mid : W) (outcome : Result Answer CommandFault) (after : W)
+      → Then (ReadsPlan gives plan) (λ (read : ShopPlan). IfShaped gives (record { shop = shop; plan = read }) (RevisesShaped gives asked description log (record { shop = shop; plan = read }))) mid outcome after → IsLow outcome
+  low_revises_read asked description log shop plan mid outcome after run =
+      held IsLow (ReadsPlan gives plan) (λ (read : ShopPlan). IfShaped gives (record { shop = shop; plan = read }) (RevisesShaped gives asked description log (record { shop = shop; plan = read }))) mid outcome after low_failed
+      (λ (read : ShopPlan) later goes. low_if_shaped (RevisesShaped gives asked description log (record { shop = shop; plan = read })) (record { shop = shop; plan = read }) later outcome after
+      (low_revises_shaped asked description log (record { shop = shop; plan = read }) later outcome after) goes) run
+
+  low_runs_revise : (asked : AskedRevision) (inputs : InputPaths) (log : List ℕ) (texts : W) (outcome : Result Answer CommandFault) (after : W) → RunsRevise gives asked inputs log texts outcome after → IsLow outcome
+  low_runs_revise asked inputs log texts outcome after run =
+      held IsLow (ReadsInstance gives inputs.path inputs.name)
+      (λ (named : Named). Then (ReadsPlan gives inputs.plan) (λ (read : ShopPlan). IfShaped gives (record { shop = named.shop; plan = read }) (RevisesShaped gives asked named.description.items log (record { shop = named.shop; plan = read }))))
+      texts outcome after low_failed
+      (λ (named : Named) mid on. low_revises_read asked named.description.items log named.shop inputs.plan mid outcome after on) run
 
   low_revises : (prints : Prints) (names : Option (List ℕ)) (at : Option ℕ) (changes : List AskedChange) (inputs : InputPaths) (log : List ℕ) (texts : W) (outcome : Result Answer CommandFault) (after : W)
       → Revises gives prints names at changes inputs log texts outcome after → IsLow outcome
   low_revises prints names at changes inputs log texts outcome after (inl run) =
-      let asked : AskedRevision = revision_asked prints names at changes run.changes in
-      held IsLow _ _ texts outcome after low_failed
-      (λ named mid on. held IsLow _ _ mid outcome after low_failed
-      (λ plan later goes. low_if_shaped (RevisesShaped gives asked named.description.items log (record { shop = named.shop; plan = plan })) (record { shop = named.shop; plan = plan }) later outcome after
-      (low_revises_shaped asked named.description.items log (record { shop = named.shop; plan = plan }) later outcome after) goes) on) run.runs
+      low_runs_revise (revision_asked prints names at changes run.changes) inputs log texts outcome after run.runs
   low_revises prints names at changes inputs log texts outcome after (inr no_memory) = subst IsLow (sym no_memory.0) tt
 
   -- what comes of a plan whose numbers are sound, with names
@@ -592,4 +630,5 @@ module _ {W : Type 0} (gives : W → List ℕ → Result (List ℕ) CommandFault
       low_both (inputs_in chosen) (λ p. Concludes (IsOrMemory (IsDigestAnswer p))) texts outcome texts_after (λ p mid on. low_or (IsDigestAnswer p) outcome (low_digest p) on.0) run.0
   low Audit chosen texts before outcome texts_after after run =
       low_logged Numbers (inputs_in chosen) None (file_at chosen 2) texts outcome texts_after run.0
+  low State chosen texts before outcome texts_after after run = low_stated (inputs_in chosen) (names_file chosen) (file_at chosen 2) chosen.at texts outcome texts_after run.0
   low Gantt chosen texts before outcome texts_after after run = low_drawing chosen.svg (inputs_in chosen) (names_file chosen) (file_at chosen 2) texts before outcome texts_after after run

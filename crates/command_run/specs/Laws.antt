@@ -1,5 +1,5 @@
 -- What the program's clauses come to in plain words.
-use Rattle.std.specs.Prelude.{◌≡◌, ◌≢◌, ℕ, ◌≤◌, List, [], ◌∷◌, ◌++◌, ◌⊎◌, length, map, get_or, unwrap_or, codes, decimal, Option, None, Some, Bool, true, false, Result, Ok, Err}
+use Rattle.std.specs.Prelude.{◌≡◌, ◌≢◌, ℕ, ◌≤◌, List, [], ◌∷◌, ◌++◌, ◌⊎◌, length, map, get_or, unwrap_or, codes, decimal, Option, None, Some, true, false, Result, Ok, Err}
 use Rattle.std.specs.String.{string_bytes}
 use Rattle.shop_base.specs.Shop.{JobShop}
 use Rattle.shop_base.specs.Plan.{PlannedShop, IsWellShaped}
@@ -46,13 +46,14 @@ use Rattle.command_answers.specs.Digests.{IsDigestAnswer}
 use Rattle.command_answers.specs.Margins.{IsMarginAnswer}
 use Rattle.command_answers.specs.Moves.{AreMovesAhead}
 use Rattle.command_answers.specs.LogLines.{IsLogLine}
+use Rattle.command_answers.specs.States.{IsStateLine}
 use Rattle.command_answers.specs.Search.{IsSearchAnswer}
 use Rattle.command_answers.specs.Improving.{ordered}
 use Rattle.command_answers.specs.Steps.{IsOrMemory}
 use Rattle.command_answers.specs.declared.rests.PlanAnswer.{PlanAnswer}
 use Rattle.command_answers.specs.Rests.{IsRestLine, job_asked}
 use Rattle.command_answers.specs.ImprovingRests.{IsBetterAnswer}
-use Rattle.command_answers.specs.Commands.{InputPaths, RunPaths, RunsFacts, RunsShape, RunsDigest, RunsMoves, RunsBounds, RunsMargin, RunsLog, RunsRest, Loads, Shapes}
+use Rattle.command_answers.specs.Commands.{InputPaths, RunPaths, RunsFacts, RunsShape, RunsDigest, RunsMoves, RunsBounds, RunsMargin, RunsLog, RunsState, RunsRest, Loads, Shapes}
 use Rattle.command_answers.specs.Pictures.{IsLineAlone, IsLogDrawn, IsRestDrawing, DrawsLog, DrawsRest}
 use Rattle.command_answers.specs.declared.loading.Loaded.TheVariants.{Judged}
 use Rattle.command_answers.specs.declared.cells.Cells.{Cells}
@@ -67,7 +68,7 @@ use Rattle.command_run.specs.Logs.{DrivesWithLog, GoesOnWithLog, LogEnd, step_of
 use Rattle.command_run.specs.Resumes.{ResumesText, IsRecovery}
 use Rattle.command_run.specs.Hubs.{AreDrivesIn, DrivesCells}
 use Rattle.command_run.specs.Ending.{WasPrinted, IsLineOut, IsTextRefusal}
-use Rattle.command_run.specs.Program.{RunsApart, RunsDrive, RunsResume, RunsHub, RunsProgram, draws_in, file_at, log_in, protocol_in, name_in, names_file, inputs_in, plans_in, run_in}
+use Rattle.command_run.specs.Program.{RunsApart, RunsDrive, RunsResume, RunsHub, RunsProgram, draws_in, file_at, protocol_in, name_in, names_file, inputs_in, plans_in, run_in}
 
 -- ---- what is printed first where the files don't change
 
@@ -103,6 +104,10 @@ MarginReadsInstanceFirst = (names : Option (List ℕ)) → ReadsInstanceFirst (�
 -- so it is for `audit` and for `gantt`
 abbrev pub LogReadsInstanceFirst : Type 0
 LogReadsInstanceFirst = (wanted : LogAnswer) (names : Option (List ℕ)) (log : List ℕ) → ReadsInstanceFirst (λ gives inputs. RunsLog gives wanted inputs names log)
+
+-- so it is for `state`
+abbrev pub StateReadsInstanceFirst : Type 0
+StateReadsInstanceFirst = (names : Option (List ℕ)) (log : List ℕ) (at : Option ℕ) → ReadsInstanceFirst (λ gives inputs. RunsState gives inputs names log at)
 
 -- the run with this plan, and otherwise with the files and the moment of another one
 abbrev pub with_inputs : RunPaths → InputPaths → RunPaths
@@ -251,6 +256,12 @@ abbrev pub LogIsAnswered : Type 0
 LogIsAnswered = (wanted : LogAnswer) (content : List ℕ → Result (List ℕ) CommandFault) (inputs : InputPaths) (log text : List ℕ) (p : PlannedShop) (outcome : Result Answer CommandFault) (asked : List (List ℕ))
     → ParseAsPlan content inputs p → content log ≡ Ok text → RunsLog (Shelf content) wanted inputs None log [] outcome asked
     → IsRunAnswered (IsLogLine no_names wanted p text) p (in_log inputs log) outcome asked
+
+-- `state`: the state at the end of the run in the log, or at a present moment
+abbrev pub StateIsAnswered : Type 0
+StateIsAnswered = (at : Option ℕ) (content : List ℕ → Result (List ℕ) CommandFault) (inputs : InputPaths) (log text : List ℕ) (p : PlannedShop) (outcome : Result Answer CommandFault) (asked : List (List ℕ))
+    → ParseAsPlan content inputs p → content log ≡ Ok text → RunsState (Shelf content) inputs None log at [] outcome asked
+    → IsRunAnswered (IsStateLine no_names at p text) p (in_log inputs log) outcome asked
 
 -- `gantt --svg`: what comes of the log is drawn
 abbrev pub LogIsDrawn : Type 0

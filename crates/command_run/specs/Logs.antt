@@ -17,7 +17,6 @@ use Rattle.event_lines.specs.RunDigits.{plan_line}
 use Rattle.event_lines.specs.declared.run_digits.RunDigits.{RunDigits}
 use Rattle.run_log.specs.declared.audit_fault.AuditFault.TheVariants.{BadLine}
 use Rattle.cell_drive.specs.declared.protocol.Protocol.{Protocol}
-use Rattle.cell_drive.specs.declared.resume.RestEnd.{RestEnd}
 use Rattle.cell_drive.specs.Recovered.{Recovered, IsRecovered, IsRecoverable, plan_of, replayed_events}
 use Rattle.cell_drive.specs.Replay.{replay_text}
 use Rattle.cell_drive.specs.InProtocol.{IsDriveIn, IsContinuedIn, IsReplayedIn}

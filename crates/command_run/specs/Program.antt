@@ -10,7 +10,7 @@ use Rattle.plan_decide.specs.declared.aim.Aim.TheVariants.{Promises, Least}
 use Rattle.plan_decide.specs.declared.aim.Objective.TheVariants.{Makespan, Leaving}
 use Rattle.command_words.specs.declared.words.Chosen.{Chosen}
 use Rattle.command_words.specs.declared.words.CommandName.{CommandName}
-use Rattle.command_words.specs.declared.words.CommandName.TheVariants.{Input as NoWords, Facts, Shape, Check, Explain, Schedule, Bounds, Margin, Plan, Improve, Decide, Revise, Drive, Resume, Hub, Digest, Audit, Gantt}
+use Rattle.command_words.specs.declared.words.CommandName.TheVariants.{Input as NoWords, Facts, Shape, Check, Explain, Schedule, Bounds, Margin, Plan, Improve, Decide, Revise, Drive, Resume, Hub, Digest, Audit, State, Gantt}
 use Rattle.command_words.specs.declared.words.Lines.{Lines}
 use Rattle.command_words.specs.declared.words.Lines.TheVariants.{One, Two}
 use Rattle.command_words.specs.declared.words.log_start.LogStart.{LogStart}
@@ -24,7 +24,7 @@ use Rattle.command_answers.specs.declared.command_fault.CommandFault.TheVariants
 use Rattle.command_answers.specs.declared.loading.Loaded.{Loaded}
 use Rattle.command_answers.specs.declared.logs.LogAnswer.TheVariants.{Numbers}
 use Rattle.command_answers.specs.declared.rests.PlanAnswer.TheVariants.{Verdict, Reasons}
-use Rattle.command_answers.specs.Commands.{InputPaths, RunPaths, RunsFacts, RunsShape, RunsDigest, RunsBounds, RunsMargin, RunsLog, RunsRest, RunsDecide, Loads, Shapes}
+use Rattle.command_answers.specs.Commands.{InputPaths, RunPaths, RunsFacts, RunsShape, RunsDigest, RunsBounds, RunsMargin, RunsLog, RunsState, RunsRest, RunsDecide, Loads, Shapes}
 use Rattle.command_answers.specs.Cells.{LoadsCells}
 use Rattle.command_run.specs.Streams.{Streams, Devices}
 use Rattle.command_run.specs.Inputs.{RunsInput}
@@ -121,6 +121,7 @@ log_given_to Decide chosen = log_in chosen
 log_given_to Revise chosen = Some (file_at chosen 2)
 log_given_to Resume chosen = Some (file_at chosen 2)
 log_given_to Audit chosen = Some (file_at chosen 2)
+log_given_to State chosen = Some (file_at chosen 2)
 log_given_to Gantt chosen = Some (file_at chosen 2)
 log_given_to other chosen = kept_log_in chosen
 
@@ -230,6 +231,8 @@ module _ {W : Type 0} (gives : W → List ℕ → Result (List ℕ) CommandFault
       RunsDigest gives (inputs_in chosen) texts outcome texts_after × (after ≡ before)
   RunsCommand Audit chosen texts before outcome texts_after after =
       RunsLog gives Numbers (inputs_in chosen) None (file_at chosen 2) texts outcome texts_after × (after ≡ before)
+  RunsCommand State chosen texts before outcome texts_after after =
+      RunsState gives (inputs_in chosen) (names_file chosen) (file_at chosen 2) chosen.at texts outcome texts_after × (after ≡ before)
   RunsCommand Gantt chosen texts before outcome texts_after after =
       RunsDrawing gives chosen.svg (inputs_in chosen) (names_file chosen) (file_at chosen 2) texts before outcome texts_after after
 

@@ -20,9 +20,11 @@ fn given_log(chosen: &Chosen) -> Option<&str>
         | CommandName::Schedule
         | CommandName::Improve
         | CommandName::Decide => rest_log(chosen),
-        CommandName::Revise | CommandName::Resume | CommandName::Audit | CommandName::Gantt => {
-            Some(file(chosen, 2))
-        }
+        CommandName::Revise
+        | CommandName::Resume
+        | CommandName::Audit
+        | CommandName::State
+        | CommandName::Gantt => Some(file(chosen, 2)),
         _ => kept_log(chosen),
     }
 }

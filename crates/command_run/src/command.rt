@@ -23,6 +23,7 @@ use cell_drive::{BufferedSink, Protocol, Source};
 use command_answers::{
     Answered, Files, InputPaths, LogAnswer, PlanAnswer, RunFiles, Texts, bounds_answer,
     digest_answer, facts_answer, log_answer, margin_answer, rest_answer, shape_answer,
+    state_answer,
 };
 use command_words::{Chosen, CommandName, Lines};
 use plan_decide::{Aim, Objective};
@@ -270,6 +271,10 @@ pub(crate) fn command<T: Texts, R: Source, W: BufferedSink, S: Screen>(
                 names: None,
             };
             log_answer(alloc, texts, &files, log, LogAnswer::Numbers)
+        }
+        CommandName::State => {
+            let log = file(chosen, 2);
+            state_answer(alloc, texts, &files(chosen), log, chosen.at)
         }
         CommandName::Gantt => {
             let log = file(chosen, 2);

@@ -1,10 +1,11 @@
 //! The command `revise`.
 
-ghost use Rattle.std.specs.Prelude.{◌≡◌, ◌≤◌, ◌++◌, ◌∷◌, [], IfSome, OnOk, map};
+ghost use Rattle.std.specs.Prelude.{◌≡◌, ◌≤◌, ◌++◌, ◌∷◌, [], IfOk, IfSome, OnOk, map, option_map};
 ghost use Rattle.std.specs.Option.{option_copied};
 ghost use Rattle.std.specs.String.{string_bytes};
 ghost use Rattle.shop_base.specs.declared.limits.TheConstants.{MAX_MOMENT};
-ghost use Rattle.command_run.specs.Revisions.{AreChangesOf, IsChangeOf, Revises, printed_for, values_asked};
+ghost use Rattle.command_run.specs.Revisions.{AreChangesOf, IsChangeOf, Revises, names_asked, printed_for};
+ghost use Rattle.command_run.specs.Revisions.{values_asked};
 
 use command_answers::{Answered, InputPaths, Revised, Revision, Texts, revise_answer};
 use command_words::{AskedChange, ChangeKind, Prints};
@@ -37,11 +38,13 @@ pub(crate) fn revision_answer<T: Texts>(
 {
     let (mut changes, mut values) = (Vec::new(alloc), Vec::new(alloc));
     add_changes(&mut changes, &mut values, asked)?;
+    let called = names_asked(alloc, asked)?;
     let (changes, values) = (changes.as_slice(), values.as_slice());
     let wanted = Revision {
         at: wanted.at,
         changes,
         values,
+        called: called.as_slice(),
         prints: printed_for(wanted.prints),
         names: wanted.names,
     };
@@ -80,6 +83,30 @@ fn add_changes<'a>(
     Ok(())
 }
 
+/// The names of the jobs that the changes make, where they are given.
+fn names_asked<'a>(
+    alloc: Global,
+    asked: &'a [AskedChange],
+) -> Result<Vec<Option<&'a str>>, AllocError>
+    ensures { IfOk result (λ called. map option_copied called.items ≡ names_asked asked.entry.now) }
+{
+    let mut called = Vec::new(alloc);
+    for one in asked {
+        called.push(lent(&one.name))?;
+    }
+    Ok(called)
+}
+
+/// The text, lent.
+fn lent(text: &Option<String>) -> Option<&str>
+    ensures { option_copied result ≡ option_map string_bytes text.now }
+{
+    match text {
+        Some(text) => Some(text.as_str()),
+        None => None,
+    }
+}
+
 /// The change that is asked for.
 fn change_of(asked: &AskedChange) -> Change<'_>
     ensures { IsChangeOf (string_bytes asked.now.value) asked.now.kind result }
@@ -105,6 +132,10 @@ fn change_of(asked: &AskedChange) -> Change<'_>
         ChangeKind::Budget { job, moment } => Change::Budget {
             job,
             budget: moment,
+        },
+        ChangeKind::Hold { machine, moment } => Change::Hold {
+            machine,
+            to: moment,
         },
         ChangeKind::Scrap { job } => Change::Scrap { job },
         ChangeKind::Down { machine } => Change::Down { machine },

@@ -1,4 +1,4 @@
-use Rattle.std.proofs.Common.{List, ℕ, Option, subst, refl}
+use Rattle.std.proofs.Common.{List, ℕ, Option, subst}
 use Rattle.command_run.specs.Program.{IsOutputLog}
 use Rattle.command_run.proofs.apart.is_shown.Goals as goal
 

@@ -1,5 +1,5 @@
 use Rattle.std.specs.Prelude.{is_some}
-use Rattle.std.proofs.Common.{◌≡◌, Err, ap, inl, inr, subst, sym, refl}
+use Rattle.std.proofs.Common.{Err, ap, inl, inr, subst, sym, refl}
 use Rattle.shop_base.specs.Plan.{PlannedShop}
 use Rattle.command_run.specs.Logs.{IsHistoryOfNew, left_if}
 use Rattle.command_run.proofs.HeldLogs.{judged_plan, left_held, undriven}

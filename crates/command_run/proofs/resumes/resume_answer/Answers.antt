@@ -1,9 +1,5 @@
-use Rattle.std.proofs.Common.{Ok, Err, Result, ap, sym, subst, ◌∙◌, refl}
+use Rattle.std.proofs.Common.{Ok, Err, ap, ◌∙◌, refl}
 use Rattle.std.proofs.lemmas.Result.{err_from_is_err_and}
-use Rattle.shop_base.specs.declared.shape_fault.ShapeFault.{ShapeFault}
-use Rattle.shop_base.specs.Plan.{PlannedShop}
-use Rattle.command_answers.specs.declared.loading.Loaded.TheVariants.{NotShaped}
-use Rattle.command_run.specs.Resumes.{Resumes}
 use Rattle.command_run.proofs.resumes.resume_answer.Goals as goal
 
 pub returns-in_err-shaped : goal.returns-in_err-shaped

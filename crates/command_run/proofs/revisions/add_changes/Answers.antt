@@ -1,4 +1,4 @@
-use Rattle.std.proofs.Common.{◌≡◌, ◌∙◌, ◌++◌, List, [], ap, append-nil, map, subst, sym}
+use Rattle.std.proofs.Common.{◌++◌, List, [], ap, append-nil, map, subst, sym}
 use Rattle.std.proofs.lemmas.List.{drop_all}
 use Rattle.plan_revise.specs.declared.change.Change.{Change}
 use Rattle.command_words.specs.declared.words.changes.AskedChange.{AskedChange}
