@@ -3,7 +3,7 @@ use Rattle.std.proofs.Common.{◌≡◌, ◌∙◌, if◌then◌else◌, ℕ, Li
 use Rattle.std.specs.Prelude.{bytes_eq}
 use Rattle.command_words.specs.Choice.{command_word_of}
 use Rattle.command_words.specs.declared.words.CommandName.{CommandName}
-use Rattle.command_words.specs.declared.words.CommandName.TheVariants.{Input, Facts, Shape, Check, Explain, Schedule, Bounds, Margin, Plan, Improve, Decide, Revise, Drive, Resume, Hub, Digest, Audit, Gantt}
+use Rattle.command_words.specs.declared.words.CommandName.TheVariants.{Input, Facts, Shape, Check, Explain, Schedule, Bounds, Margin, Plan, Improve, Decide, Revise, Drive, Resume, Hub, Digest, Audit, State, Gantt}
 
 -- the command of a word
 abbrev command_of : Option (List ℕ) → CommandName
@@ -24,6 +24,7 @@ command_of (Some word) = if bytes_eq word (codes "facts") then Facts
     else if bytes_eq word (codes "hub") then Hub
     else if bytes_eq word (codes "digest") then Digest
     else if bytes_eq word (codes "audit") then Audit
+    else if bytes_eq word (codes "state") then State
     else Gantt
 
 -- each command is that of its word
@@ -45,6 +46,7 @@ is_command_of Resume = refl
 is_command_of Hub = refl
 is_command_of Digest = refl
 is_command_of Audit = refl
+is_command_of State = refl
 is_command_of Gantt = refl
 
 pub same_command : (name other : CommandName) → command_word_of name ≡ command_word_of other → name ≡ other

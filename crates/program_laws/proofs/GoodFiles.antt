@@ -1,6 +1,6 @@
 -- What good files are answered by, where they don't change.
 use Rattle.std.specs.Prelude.{unwrap_or}
-use Rattle.std.proofs.Common.{◌≡◌, ℕ, ◌<◌, ◌≤◌, arith, ◌++◌, List, [], ◌∷◌, ◌⊎◌, Option, None, Some, Result, Ok, Err, inl, inr, ap, sym, ◌∙◌, subst, refl}
+use Rattle.std.proofs.Common.{◌≡◌, ℕ, ◌<◌, ◌≤◌, arith, ◌++◌, List, [], ◌∷◌, ◌⊎◌, Option, None, Result, Ok, Err, inl, inr, ap, sym, ◌∙◌, subst, refl}
 use Rattle.shop_base.specs.Shop.{JobShop}
 use Rattle.shop_base.specs.declared.shape_fault.ShapeFault.{ShapeFault}
 use Rattle.shop_base.specs.Plan.{ShopPlan, PlannedShop, IsWellShaped}

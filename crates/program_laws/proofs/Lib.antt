@@ -13,3 +13,4 @@ pub mod KnownHistories
 pub mod OneLogs
 mod NamedPlans
 mod TouchedLogs
+mod NextLogs

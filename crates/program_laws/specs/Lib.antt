@@ -6,3 +6,4 @@ pub mod HistoryLaw
 pub mod OneLogLaw
 pub mod PlanLaw
 pub mod MemoryLaw
+pub mod NextLogLaw

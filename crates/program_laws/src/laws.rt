@@ -10,13 +10,13 @@ ghost use Rattle.command_run.specs.Laws.{FactsReadsInstanceFirst, ShapeReadsInst
 ghost use Rattle.command_run.specs.Laws.{DigestReadsInstanceFirst, MovesReadsInstanceFirst};
 ghost use Rattle.command_run.specs.Laws.{BoundsReadsInstanceFirst, MarginReadsInstanceFirst};
 ghost use Rattle.command_run.specs.Laws.{LogReadsInstanceFirst, RestReadsInstanceFirst, PlanReadsInstanceFirst};
-ghost use Rattle.command_run.specs.Laws.{ImproveReadsInstanceFirst};
+ghost use Rattle.command_run.specs.Laws.{ImproveReadsInstanceFirst, StateReadsInstanceFirst};
 ghost use Rattle.command_run.specs.Laws.{DriveReadsInstanceFirst, ResumeReadsInstanceFirst, HubReadsInstanceFirst};
 ghost use Rattle.command_run.specs.Laws.{ScheduleDrawsInstanceFirst, LogDrawsInstanceFirst};
 ghost use Rattle.command_run.specs.Laws.{ScheduleIsDrawn, LogIsDrawn};
 ghost use Rattle.command_run.specs.Laws.{FactsAnswerShop, ShapeAnswersPlan, DigestAnswersPlan};
 ghost use Rattle.command_run.specs.Laws.{BoundsAnswerPlan, MarginAnswersPlan};
-ghost use Rattle.command_run.specs.Laws.{MovesAreAnswered, LogIsAnswered, RestIsAnswered};
+ghost use Rattle.command_run.specs.Laws.{MovesAreAnswered, LogIsAnswered, StateIsAnswered, RestIsAnswered};
 ghost use Rattle.command_run.specs.Laws.{PlanAnswersPlan, ImproveIsAnswered};
 ghost use Rattle.command_run.specs.Laws.{DriveDrivesPlan, ResumeGoesOn};
 ghost use Rattle.command_run.specs.Laws.{HubDrivesPlans, InputAnswersShop};
@@ -28,10 +28,13 @@ ghost use Rattle.program_laws.specs.{HubLaw.HubWritesTheSame, LoggedLaw.LoggedDr
 ghost use Rattle.program_laws.specs.OneLogLaw.{ANewLogIsOfOneRun, ARecoveredLogIsOfOneRun};
 ghost use Rattle.program_laws.specs.PlanLaw.{NoPlanWithOtherDigitsDrives};
 ghost use Rattle.program_laws.specs.MemoryLaw.{OutOfMemoryChangesNoLog};
+ghost use Rattle.program_laws.specs.NextLogLaw.{NoBeginningDrives, NoBeginningIsRevised, TheNextLogGoesOn};
 ghost use Rattle.program_laws.specs.HistoryLaw.{NewLogHasHistory, OldLogHasHistory, UnrecoveredLogHasHistory};
 
 use command_answers::Texts;
+use log_chapters::laws::{chapters_are_whole_or_none, chapters_record_their_events};
 use logged_drive::laws::{a_driven_run_is_recovered, a_recovered_run_is_recovered};
+use run_pruning::laws::what_is_left_needs_no_spare;
 
 /// In each command over files, `drive` without `--log`: if the text of the instance is refused, its first fault is
 /// reported, unless memory runs out, and no other file is asked for. `drive`, `resume`, `hub` and a command with
@@ -46,6 +49,7 @@ pub fn instance_first()
     ensures bounds { BoundsReadsInstanceFirst }
     ensures margin { MarginReadsInstanceFirst }
     ensures log { LogReadsInstanceFirst }
+    ensures state { StateReadsInstanceFirst }
     ensures schedule_picture { ScheduleDrawsInstanceFirst }
     ensures log_picture { LogDrawsInstanceFirst }
     ensures plan { PlanReadsInstanceFirst }
@@ -71,6 +75,7 @@ pub fn good_files_are_answered()
     ensures bounds { BoundsAnswerPlan }
     ensures margin { MarginAnswersPlan }
     ensures log { LogIsAnswered }
+    ensures state { StateIsAnswered }
     ensures schedule_picture { ScheduleIsDrawn }
     ensures log_picture { LogIsDrawn }
     ensures plan { PlanAnswersPlan }
@@ -179,4 +184,26 @@ pub fn a_log_is_of_one_run()
 {
     a_driven_run_is_recovered();
     a_recovered_run_is_recovered();
+}
+
+/// Let a log be a beginning of what `revise` prints with all texts, and not all of it, also with zeros behind it. By a plan
+/// whose digits aren't zeros no cell is driven with it, where it has to have begun; once it has a line, nor is one where the
+/// words don't say so, but by a hand-over. Nor is it told anew, unless the plan of the log isn't asked for.
+pub fn no_beginning_of_a_log_drives<T: Texts>()
+    ensures drives { NoBeginningDrives T.gives }
+    ensures revised { NoBeginningIsRevised }
+{
+    chapters_are_whole_or_none();
+}
+
+/// What `revise` prints of a run without what is over, where nothing else is changed, is the log of the jobs that stay:
+/// every reader of logs reads the events of their run, which ends in the same cell without the others. The same is ahead
+/// as before, and from every present moment on each controlled run by the old texts is one by the new ones, by the new
+/// numbers, and the other way round. By its last line it is the log of its plan.
+pub fn the_next_log_goes_on()
+    ensures { TheNextLogGoesOn }
+{
+    what_is_left_needs_no_spare();
+    chapters_record_their_events();
+    chapters_are_whole_or_none();
 }

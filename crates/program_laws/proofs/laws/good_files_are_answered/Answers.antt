@@ -7,6 +7,7 @@ use Rattle.command_answers.specs.Digests.{IsDigestAnswer}
 use Rattle.command_answers.specs.LogLines.{IsLogLine}
 use Rattle.command_answers.specs.Margins.{IsMarginAnswer}
 use Rattle.command_answers.specs.Moves.{AreMovesAhead}
+use Rattle.command_answers.specs.States.{IsStateLine}
 use Rattle.command_answers.specs.Pictures.{IsLineAlone, IsLogDrawn, IsRestDrawing}
 use Rattle.command_answers.proofs.AskedRuns.{OnLog}
 use Rattle.command_run.specs.Laws.{in_log}
@@ -45,6 +46,10 @@ returns-clause-schedule_picture c = λ before after content run p text outcome a
 pub returns-clause-log : goal.returns-clause-log
 returns-clause-log c = λ wanted content inputs log text p outcome asked good is run.
     good_run content (in_log inputs log) p (Some text) Itself (λ q book. OnLog (IsLogLine book wanted q)) (record { plan = good; log = (text, is, refl); unnamed = refl }) None outcome asked refl run
+
+pub returns-clause-state : goal.returns-clause-state
+returns-clause-state c = λ at content inputs log text p outcome asked good is run.
+    good_run content (in_log inputs log) p (Some text) Itself (λ q book. OnLog (IsStateLine book at q)) (record { plan = good; log = (text, is, refl); unnamed = refl }) None outcome asked refl run
 
 pub returns-clause-log_picture : goal.returns-clause-log_picture
 returns-clause-log_picture c = λ before after content inputs log text p outcome asked good is run.

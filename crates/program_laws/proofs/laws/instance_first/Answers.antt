@@ -28,6 +28,9 @@ returns-clause-margin c = λ names content inputs text fault outcome asked is fi
 pub returns-clause-log : goal.returns-clause-log
 returns-clause-log c = λ wanted names log content inputs text fault outcome asked is first run. instance_first_of content inputs text fault is first _ outcome asked run
 
+pub returns-clause-state : goal.returns-clause-state
+returns-clause-state c = λ names log at content inputs text fault outcome asked is first run. instance_first_of content inputs text fault is first _ outcome asked run
+
 pub returns-clause-log_picture : goal.returns-clause-log_picture
 returns-clause-log_picture c = λ names log before after content inputs text fault outcome asked is first run. picture_first content inputs text fault is first _ before after outcome asked run
 
