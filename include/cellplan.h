@@ -51,7 +51,7 @@ extern "C" {
 #define CELLPLAN_VERSION 3
 
 /* The version of cellplan that this header comes from: `cellplan --version` prints that of a program. */
-#define CELLPLAN_VERSION_TEXT "3.1.0"
+#define CELLPLAN_VERSION_TEXT "3.2.0"
 
 /* The statuses: those of the program, then those of these calls alone. */
 enum {
